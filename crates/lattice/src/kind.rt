@@ -1,0 +1,7 @@
+// The kinds of listing.
+#[derive(Clone, Copy, PartialEq, Eq, Debug)]
+pub enum Kind {
+    Fixed,
+    OneSided,
+    Free,
+}
