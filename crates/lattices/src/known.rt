@@ -1,0 +1,7 @@
+// The lattices that are known by name.
+#[derive(Clone, Copy, PartialEq, Eq, Debug)]
+pub enum Known {
+    Square,
+    Hex,
+    Cubic,
+}
