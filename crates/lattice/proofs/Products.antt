@@ -8,12 +8,9 @@ use lib.Signed.{ltZ}
 use Rattle.std.proofs.shelf.Signed.{ints}
 use Rattle.lattice.specs.declared.cell.Cell.{Cell}
 use Rattle.std.specs.Orderings.{isEq}
-use Rattle.std.specs.declared.cmp.Ordering.{Ordering}
-use Rattle.std.specs.declared.cmp.Ordering.the-variants.{Less, Equal, Greater}
-use Rattle.std.proofs.shelf.Tests.{false≢true}
 use Rattle.ordered.specs.Orders.{comparison}
 use Rattle.ordered.proofs.Counting.{Equality}
-use Rattle.ordered.proofs.Orders.{same-comparison, equal-comparison}
+use Rattle.ordered.proofs.Orders.{comparison-equality}
 use Rattle.lattice.specs.Cells.{coordinates}
 use Rattle.lattice.specs.Matrices.{Matrix, dot, image, row-times, product, identity, entries, same-matrix}
 use Rattle.lattice.proofs.Coordinates.{cell-same, coordinates-same, whole-order}
@@ -41,11 +38,6 @@ unfolding image identity
 image-identity x = cell-same (image identity x) x (omega (arith, ints)) (omega (arith, ints)) (omega (arith, ints))
 
 -- ---- equality
-is-equal : (o : Ordering) → isEq o ≡ true → o ≡ Equal
-is-equal Less e = absurd (false≢true e)
-is-equal Equal e = refl
-is-equal Greater e = absurd (false≢true e)
-
 pub matrix-same : (g h : Matrix) → g .to-a ≡ h .to-a → g .to-b ≡ h .to-b → g .to-c ≡ h .to-c → g ≡ h
 matrix-same g h p q r = λ i. record { to-a = p i; to-b = q i; to-c = r i }
 
@@ -60,14 +52,12 @@ abbrev pub same-cell : Cell → Cell → Bool
 same-cell x y = isEq (comparison ltZ (coordinates x) (coordinates y))
 
 pub cell-equality : Equality same-cell
-cell-equality x y = (
-  λ e. coordinates-same x y (same-comparison ltZ whole-order (coordinates x) (coordinates y) (is-equal (comparison ltZ (coordinates x) (coordinates y)) e)),
-  λ e. ap isEq (equal-comparison ltZ whole-order (coordinates x) (coordinates y) (ap coordinates e)),
-)
+cell-equality x y =
+    let t = comparison-equality ltZ whole-order (coordinates x) (coordinates y) in
+    (λ e. coordinates-same x y (t .0 e), λ e. t .1 (ap coordinates e))
 
 pub matrix-equality : Equality same-matrix
 unfolding same-matrix
-matrix-equality g h = (
-  λ e. entries-same g h (same-comparison ltZ whole-order (entries g) (entries h) (is-equal (comparison ltZ (entries g) (entries h)) e)),
-  λ e. ap isEq (equal-comparison ltZ whole-order (entries g) (entries h) (ap entries e)),
-)
+matrix-equality g h =
+    let t = comparison-equality ltZ whole-order (entries g) (entries h) in
+    (λ e. entries-same g h (t .0 e), λ e. t .1 (ap entries e))

@@ -1,22 +1,26 @@
 -- Ascending lists of numbers, by places and by members.
 use mathlib.Core.Path.{_≡_, refl, sym, ap, subst, _∙_}
-use mathlib.Core.Bool.{Bool, true, false}
+use mathlib.Core.Bool.{Bool, true, false, cond}
 use mathlib.Core.List.{List, [], _∷_, _++_}
 use mathlib.Core.Logic.{_⊎_, inl, inr}
 use Prim.Native.Nat.{ℕ, zero, suc, _+_, _-_, _<_, _≤_}
 use native.Mathlib.Nat.{suc-add, zero-add}
 use native.Mathlib.Omega.{arith}
-use lib.Dec.{ltb}
+use lib.Dec.{eqb, ltb}
 use lib.ListN.{length, getD, take, drop, replicate, length-take}
 use Rattle.std.specs.shelf.Lawful.{Climbs}
+use Rattle.std.specs.Iters.{counting}
+use Rattle.std.proofs.shelf.Counted.{length-counting}
 use Rattle.std.proofs.shelf.Lists.{drop-drop, getD-take}
 use Rattle.std.proofs.shelf.Tests.{ltb-true, lt-ltb}
 use Rattle.ordered.specs.Members.{In}
 use Rattle.ordered.specs.Orders.{Ascending}
 use Rattle.ordered.specs.Lookups.{inserted, insertion, over}
 use Rattle.ordered.specs.declared.insert.Insertion.the-variants.{Placed}
-use Rattle.ordered.proofs.Ascending.{inserted-out, inserted-ascending}
-use Rattle.ordered.proofs.Counted.{number-order}
+use Rattle.ordered.proofs.Ascending.{ascending-no-repeats, inserted-out, inserted-ascending}
+use Rattle.ordered.proofs.Orders.{number-order}
+use Rattle.ordered.proofs.Counted.{in-counting}
+use Rattle.ordered.proofs.Counting.{fits, number-equality}
 use Rattle.ordered.proofs.Slots.{placed-list, placed-rest}
 use Rattle.ordered.proofs.Members.{in-getD, getD-from-in}
 
@@ -69,3 +73,32 @@ module _ (m n k : ℕ) (slots new : List ℕ) (e : Placed k ≡ insertion ltb m 
 
   pub added-blank : n < 48 → drop n slots ≡ replicate (48 - n) 0 → drop (n + 1) new ≡ replicate (48 - (n + 1)) 0
   added-blank r b = ap (drop (n + 1)) after ∙ placed-rest ltb m n slots k e ∙ blank-more slots n r b
+
+-- a set that lacks a number below 48 has room for it: the pigeonhole
+pub room-for : (m n : ℕ) (slots : List ℕ) → m < 48 → n ≤ length slots → Climbs (take n slots) → ((j : ℕ) → j < n → getD slots j 0 < 48) → (In m (take n slots) → ⊥) → n < 48
+room-for m n slots l r c small out =
+    let xs = take n slots in
+    let here : (y : ℕ) → In y (m ∷ xs) → In y (counting 0 48) = λ y h. in-counting 0 48 y (omega arith) (below y h) in
+    let most : length (m ∷ xs) ≤ length (counting 0 48) = fits eqb number-equality (m ∷ xs) (counting 0 48) (out, ascending-no-repeats ltb number-order xs (ascending-from-climbs xs c)) here in
+    omega (arith, most, length-counting 0 48, length-take n slots)
+  where
+    below : (y : ℕ) → In y (m ∷ take n slots) → y < 0 + 48
+    below y (inl e) = omega arith
+    below y (inr h) = omega (arith, small-in slots n small y h)
+
+-- 0 stays the first
+pub added-zero : (m n k : ℕ) (slots new : List ℕ) → Placed k ≡ insertion ltb m n slots → new ≡ over (inserted ltb m (take n slots)) slots → 1 ≤ n → getD slots 0 1 ≡ 0 → getD new 0 1 ≡ 0
+added-zero m zero k slots new e after some z = absurd (omega arith)
+added-zero m (suc n) k [] new e after some z = absurd (omega arith)
+added-zero m (suc n) k (x ∷ xs) new e after some z =
+    let first : getD (inserted ltb m (x ∷ take n xs)) 0 1 ≡ 0 = go (ltb x m) (ltb m x) refl refl in
+    ap (λ l. getD l 0 1) after ∙ front (inserted ltb m (x ∷ take n xs)) (drop (length (inserted ltb m (x ∷ take n xs))) (x ∷ xs)) first
+  where
+    front : (ys zs : List ℕ) → getD ys 0 1 ≡ 0 → getD (ys ++ zs) 0 1 ≡ 0
+    front [] zs q = absurd (omega arith)
+    front (y ∷ ys) zs q = q
+
+    go : (s t : Bool) → ltb x m ≡ s → ltb m x ≡ t → getD (cond s (x ∷ inserted ltb m (take n xs)) (cond t (m ∷ x ∷ take n xs) (x ∷ take n xs))) 0 1 ≡ 0
+    go true t p q = z
+    go false true p q = absurd (omega (arith, ltb-true m x q))
+    go false false p q = z

@@ -10,14 +10,13 @@ use lib.Dec.{eqb, ltb}
 use lib.ListN.{length}
 use Rattle.std.specs.Iters.{counting}
 use Rattle.std.specs.shelf.Lists.{kept-by}
-use Rattle.std.proofs.shelf.Counted.{length-counting}
 use Rattle.std.proofs.shelf.Elements.{kept-by-append}
 use Rattle.std.proofs.shelf.Tests.{lt-ltb, eqb-true, eq-eqb}
 use Rattle.ordered.specs.Members.{In}
 use Rattle.ordered.specs.Orders.{Ascending}
 use Rattle.ordered.specs.Lookups.{inserted}
 use Rattle.ordered.proofs.Ascending.{ascending-kept}
-use Rattle.ordered.proofs.Counted.{counting-suc, from-counting, in-counting, ascending-counting, length-kept-most, inserted-last}
+use Rattle.ordered.proofs.Counted.{counting-suc, from-counting, in-counting, ascending-counting, inserted-last}
 use Rattle.ordered.proofs.Members.{in-kept, from-kept}
 use Rattle.lattice.specs.declared.cell.Cell.{Cell}
 use Rattle.lattice.specs.declared.kind.Kind.{Kind}
@@ -42,9 +41,6 @@ module _ (p : ℕ → Bool) (n : ℕ) where
   kept-yes e =
       kept-suc
       ∙ rw e (sym (inserted-last ltb n (kept-by p (counting 0 n)) (λ y h. lt-ltb y n (omega (arith, from-counting 0 n y (from-kept p (counting 0 n) y h .0) .1)))))
-
-  pub kept-most : length (kept-by p (counting 0 n)) ≤ n
-  kept-most = omega (arith, length-kept-most p (counting 0 n), length-counting 0 n)
 
 -- ---- the list of a kind is closed
 module _ {name : List ℕ} {ds : List Cell} {ms : List Matrix} {os : ℕ → Bool} (R : Rules name ds ms os) where

@@ -1,23 +1,27 @@
 -- Kinds, by number, and the sets of motions that they use. Assumes nothing.
 --     kind-number k                the number of the kind k
 --     numbered-kind n              the kind with the number n, or the refusal 2
+--     kind-name k                  the bytes of the word for the kind k
+--     named-kind bs                the kind whose word is bs, or the refusal 2
 --     uses k os g                  the kind k uses motion g: fixed only motion 0, one-sided those of the one-sided set os, free all
 --     kind-motions ms os k         the numbers of the motions that k uses, ascending
 --     numbered-motions ms os n     those of the kind with the number n, or the refusal 2
 --     Closed ms gs                 gs are ascending numbers of motions of ms, with 0 among them and "g after h" with g and h
 --     set-motions s                the numbers in the set s
 use mathlib.Core.Path.{_≡_}
-use mathlib.Core.Bool.{Bool, true}
-use mathlib.Core.List.{List}
+use mathlib.Core.Bool.{Bool, true, cond}
+use mathlib.Core.List.{List, [], _∷_}
 use Prim.Native.Nat.{ℕ, zero, suc, _<_}
+use lib.Chars.{codes}
 use lib.Dec.{eqb, ltb}
 use lib.ListN.{length, take}
 use Rattle.std.specs.Iters.{counting}
+use Rattle.std.specs.Orderings.{isEq}
 use Rattle.std.specs.declared.result.Result.{Result}
 use Rattle.std.specs.declared.result.Result.the-variants.{Ok, Err}
 use Rattle.std.specs.shelf.Lists.{kept-by}
 use Rattle.ordered.specs.Members.{In}
-use Rattle.ordered.specs.Orders.{Ascending}
+use Rattle.ordered.specs.Orders.{Ascending, comparison}
 use Rattle.lattice.specs.declared.kind.Kind.{Kind}
 use Rattle.lattice.specs.declared.kind.Kind.the-variants.{Fixed, OneSided, Free}
 use Rattle.lattice.specs.declared.motion_set.MotionSet.{MotionSet}
@@ -34,6 +38,19 @@ numbered-kind zero = Ok Fixed
 numbered-kind (suc zero) = Ok OneSided
 numbered-kind (suc (suc zero)) = Ok Free
 numbered-kind (suc (suc (suc n))) = Err 2
+
+abbrev pub kind-name : Kind → List ℕ
+kind-name Fixed = codes "fixed"
+kind-name OneSided = codes "one-sided"
+kind-name Free = codes "free"
+
+-- the first of the kinds ks whose word is bs
+abbrev pub kind-among : List Kind → List ℕ → Result Kind ℕ
+kind-among [] bs = Err 2
+kind-among (k ∷ ks) bs = cond (isEq (comparison ltb bs (kind-name k))) (Ok k) (kind-among ks bs)
+
+abbrev pub named-kind : List ℕ → Result Kind ℕ
+named-kind bs = kind-among (Fixed ∷ OneSided ∷ Free ∷ []) bs
 
 abbrev pub uses : Kind → (ℕ → Bool) → ℕ → Bool
 uses Fixed os g = eqb g 0

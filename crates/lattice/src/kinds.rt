@@ -4,12 +4,14 @@ ghost use Prim.Native.Nat.{_<_};
 ghost use lib.ListN.{length};
 ghost use Rattle.std.specs.declared.result.Result.the-variants.{Ok};
 ghost use Rattle.lattice.specs.declared.motion_set.MotionSet.{MotionSet};
-ghost use Rattle.lattice.specs.Kinds.{kind-number, numbered-kind, uses as uses-motion, numbered-motions, Closed, set-motions};
+ghost use Rattle.lattice.specs.Kinds.{kind-number, numbered-kind, kind-name, named-kind, uses as uses-motion, numbered-motions, Closed, set-motions};
 ghost use Rattle.lattice.specs.Refusals.{answer};
 use crate::kind::Kind;
 use crate::lattice::Lattice;
 use crate::motion_set::MotionSet;
 use crate::refusal::Refusal;
+use ordered::compare::compare;
+use ordered::order::U8TotalOrder;
 
 impl Kind {
     pub fn number(self) -> u8
@@ -31,6 +33,32 @@ impl Kind {
             1 => Ok(Kind::OneSided),
             2 => Ok(Kind::Free),
             _ => Err(Refusal::Kind),
+        }
+    }
+
+    // The word for the kind.
+    pub fn word(self) -> &'static str
+        ensures { λ r. ⌜ now r ≡ kind-name self ⌝ }
+    {
+        match self {
+            Kind::Fixed => "fixed",
+            Kind::OneSided => "one-sided",
+            Kind::Free => "free",
+        }
+    }
+
+    // The kind with this word; refused by 2 if there is none.
+    pub fn named(word: &[u8]) -> Result<Kind, Refusal>
+        ensures { λ r. ⌜ answer (λ k. k) r ≡ named-kind (now (word .entry)) ⌝ }
+    {
+        if compare(word, b"fixed").is_eq() {
+            Ok(Kind::Fixed)
+        } else if compare(word, b"one-sided").is_eq() {
+            Ok(Kind::OneSided)
+        } else if compare(word, b"free").is_eq() {
+            Ok(Kind::Free)
+        } else {
+            Err(Refusal::Kind)
         }
     }
 
@@ -56,7 +84,7 @@ pub fn motions_of_kind<L: Lattice>(lattice: &L, kind: u8) -> Result<MotionSet, R
     let mut set = MotionSet::identity();
     for motion in 1..lattice.motion_count() {
         if kind.uses(lattice, motion) {
-            set.add(motion);
+            set.insert(motion);
         }
     }
     Ok(set)

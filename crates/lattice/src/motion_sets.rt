@@ -1,7 +1,7 @@
 // Sets of motion numbers.
 ghost use mathlib.Core.Path.{_≡_};
-ghost use mathlib.Core.List.{List, [], _∷_};
-ghost use Prim.Native.Nat.{_<_};
+ghost use mathlib.Core.Bool.{cond};
+ghost use mathlib.Core.List.{[], _∷_};
 ghost use lib.Dec.{ltb};
 ghost use lib.ListN.{length};
 ghost use Rattle.std.specs.Orderings.{Decides};
@@ -47,12 +47,14 @@ impl MotionSet {
         }
     }
 
-    // One motion more, where there is room.
-    pub(crate) fn add(&mut self, motion: u8)
-        requires small { ⌜ motion < 48 ⌝ }
-        requires room { ⌜ length (set-motions (now self)) < 48 ⌝ }
-        ensures { λ _. ⌜ set-motions (now (self .exit)) ≡ inserted ltb motion (set-motions (now (self .entry))) ⌝ }
+    // One motion more, if its number is at most 47; tells whether the set has it now.
+    pub fn insert(&mut self, motion: u8) -> bool
+        ensures value { λ r. ⌜ r ≡ ltb motion 48 ⌝ }
+        ensures after { λ _. ⌜ set-motions (now (self .exit)) ≡ cond (ltb motion 48) (inserted ltb motion (set-motions (now (self .entry)))) (set-motions (now (self .entry))) ⌝ }
     {
+        if motion >= 48 {
+            return false;
+        }
         let mut motions = self.motions;
         match insert(&mut motions, self.count, motion) {
             Insertion::Placed(_) => {
@@ -64,5 +66,6 @@ impl MotionSet {
             Insertion::Present(_) => {}
             Insertion::Full => {}
         }
+        true
     }
 }

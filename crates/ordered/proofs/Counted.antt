@@ -1,27 +1,17 @@
 -- The numbers from one on, in their order.
-use mathlib.Core.Path.{_≡_, refl, sym, ap, subst, _∙_}
-use mathlib.Core.Bool.{Bool, true, false, cond}
+use mathlib.Core.Path.{_≡_, refl, sym, ap, _∙_}
+use mathlib.Core.Bool.{Bool, true}
 use mathlib.Core.List.{List, [], _∷_, _++_}
 use mathlib.Core.Logic.{_⊎_, inl, inr, ⊎-elim}
 use Prim.Native.Nat.{ℕ, zero, suc, _+_, _<_, _≤_}
 use native.Mathlib.Nat.{add-zero}
 use native.Mathlib.Omega.{arith}
 use lib.Dec.{ltb}
-use lib.ListN.{length}
 use Rattle.std.specs.Iters.{counting}
-use Rattle.std.specs.shelf.Lists.{kept-by}
-use Rattle.std.proofs.shelf.Tests.{lt-ltb, cases-eq, cond-true, cond-false}
-use Rattle.std.proofs.shelf.Ways.{tells}
+use Rattle.std.proofs.shelf.Tests.{lt-ltb, cases-eq}
 use Rattle.ordered.specs.Members.{In}
-use Rattle.ordered.specs.Orders.{Strict-total, Ascending}
+use Rattle.ordered.specs.Orders.{Ascending}
 use Rattle.ordered.specs.Lookups.{inserted}
-
-pub number-order : Strict-total ltb
-number-order = record {
-  irreflexive = λ x h. grind (arith, tells);
-  transitive = λ x y z h k. grind (arith, tells);
-  trichotomous = λ x y h k. grind (arith, tells);
-}
 
 pub counting-suc : (a n : ℕ) → counting a (suc n) ≡ counting a n ++ (a + n) ∷ []
 counting-suc a zero = ap (λ k. k ∷ []) (sym (add-zero a))
@@ -42,15 +32,7 @@ pub ascending-counting : (a n : ℕ) → Ascending ltb (counting a n)
 ascending-counting a zero = tt
 ascending-counting a (suc n) = (λ y h. lt-ltb a y (omega (arith, from-counting (a + 1) n y h .0)), ascending-counting (a + 1) n)
 
--- ---- what a test keeps of them
-pub length-kept-most : {X : Type 0} (p : X → Bool) (xs : List X) → length (kept-by p xs) ≤ length xs
-length-kept-most p [] = omega arith
-length-kept-most p (x ∷ xs) = go (p x) (length-kept-most p xs)
-  where
-    go : (b : Bool) → length (kept-by p xs) ≤ length xs → length (cond b (x ∷ kept-by p xs) (kept-by p xs)) ≤ suc (length xs)
-    go true e = omega arith
-    go false e = omega arith
-
+-- ---- insertion in order
 -- an item above all others goes to the end
 pub inserted-last : {X : Type 0} (less : X → X → Bool) (x : X) (xs : List X) → ((y : X) → In y xs → less y x ≡ true) → inserted less x xs ≡ xs ++ x ∷ []
 inserted-last less x [] h = refl

@@ -8,10 +8,11 @@ use mathlib.Core.Bool.{Bool, true, false, cond}
 use Prim.Native.Nat.{ℕ, _+_, _*_, _≤_}
 use native.Mathlib.Nat.{one-mul}
 use native.Mathlib.Omega.{arith}
+use lib.Dec.{eqb}
 use lib.ListN.{length}
 use Rattle.std.specs.shelf.Lists.{kept-by, sumBy}
 use Rattle.std.proofs.shelf.Sums.{sumBy-cons}
-use Rattle.std.proofs.shelf.Tests.{true≢false}
+use Rattle.std.proofs.shelf.Tests.{true≢false, eqb-true, eq-eqb}
 use Rattle.ordered.specs.Members.{In, No-repeats}
 use Rattle.ordered.proofs.Members.{in-cast}
 
@@ -81,6 +82,9 @@ total-scale p k (x ∷ xs) = go (p x) (total-scale p k xs)
     go false r = omega arith
 
 -- ---- how often one is in a list
+pub number-equality : Equality eqb
+number-equality x y = (eqb-true x y, eq-eqb x y)
+
 module _ {X : Type 0} (same : X → X → Bool) (eq : Equality same) where
   pub differ : (x y : X) → (x ≡ y → ⊥) → same x y ≡ false
   differ x y n = go (same x y) refl

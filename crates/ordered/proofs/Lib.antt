@@ -5,3 +5,5 @@ pub mod Lookups
 pub mod Ascending
 pub mod Slots
 pub mod Counted
+pub mod Kept
+pub mod Sorted

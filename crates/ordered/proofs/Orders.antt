@@ -1,12 +1,16 @@
 -- Strict total orders: the cases of two items, what a rank says, and the order of lists.
 --     Three less x y       the first is less, the second is less, or they are equal
 --     neither less x y     the test that neither is less
-use mathlib.Core.Path.{_≡_, refl, sym, _∙_, subst}
+use mathlib.Core.Path.{_≡_, refl, sym, _∙_, ap, subst}
 use mathlib.Core.List.{List, [], _∷_}
 use mathlib.Core.Logic.{_⊎_, inl, inr}
 use mathlib.Core.Bool.{Bool, true, false, cond, not}
+use native.Mathlib.Omega.{arith}
+use lib.Dec.{ltb}
 use Rattle.std.proofs.shelf.Tests.{true≢false}
-use Rattle.std.specs.Orderings.{isLt, thenBy}
+use Rattle.std.proofs.shelf.Ways.{tells}
+use Rattle.std.specs.Orderings.{isLt, isEq, thenBy}
+use Rattle.std.specs.declared.cmp.Ordering.{Ordering}
 use Rattle.std.specs.declared.cmp.Ordering.the-variants.{Less, Equal, Greater}
 use Rattle.ordered.specs.Orders.{Strict-total, rank, comparison, list-less}
 use Rattle.ordered.proofs.Counting.{Equality}
@@ -16,6 +20,11 @@ Three less x y = ((less x y ≡ true) × (less y x ≡ false)) ⊎ (((less x y �
 
 abbrev pub neither : {X : Type 0} → (X → X → Bool) → X → X → Bool
 neither less x y = cond (less x y) false (not (less y x))
+
+pub is-equal : (o : Ordering) → isEq o ≡ true → o ≡ Equal
+is-equal Less e = absurd (true≢false (sym e))
+is-equal Equal e = refl
+is-equal Greater e = absurd (true≢false (sym e))
 
 -- ---- what a rank says, of any test
 pub rank-less : {X : Type 0} (less : X → X → Bool) (x y : X) → rank less x y ≡ Less → less x y ≡ true
@@ -141,3 +150,15 @@ module _ {X : Type 0} (less : X → X → Bool) (O : Strict-total less) where
 
   pub list-order : Strict-total (list-less less)
   list-order = record { irreflexive = λ xs h. true≢false (sym (rw (itself xs) at h)); transitive = list-transitive; trichotomous = list-trichotomous }
+
+  -- the test of equality of lists
+  pub comparison-equality : Equality (λ (xs ys : List X). isEq (comparison less xs ys))
+  comparison-equality xs ys = (λ e. same-comparison xs ys (is-equal (comparison less xs ys) e), λ e. ap isEq (equal-comparison xs ys e))
+
+-- ---- numbers
+pub number-order : Strict-total ltb
+number-order = record {
+  irreflexive = λ x h. grind (arith, tells);
+  transitive = λ x y z h k. grind (arith, tells);
+  trichotomous = λ x y h k. grind (arith, tells);
+}

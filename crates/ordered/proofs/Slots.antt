@@ -26,17 +26,20 @@ present-from room (Found j) k e = cc
 present-from true (Absent j) k e = cc
 present-from false (Absent j) k e = cc
 
-full-from : (room : Bool) (r : Lookup) → Full ≡ answered room r → room ≡ false
-full-from room (Found j) e = cc
-full-from true (Absent j) e = cc
-full-from false (Absent j) e = refl
+full-from : (room : Bool) (r : Lookup) → Full ≡ answered room r → (room ≡ false) × ((k : ℕ) × (r ≡ Absent k))
+full-from room (Found j) e = (cc, (0, cc))
+full-from true (Absent j) e = (cc, (j, refl))
+full-from false (Absent j) e = (refl, (j, refl))
 
 module _ {X : Type 0} (less : X → X → Bool) (x : X) (n : ℕ) (slots : List X) where
   pub present-same : (k : ℕ) → Present k ≡ insertion less x n slots → inserted less x (take n slots) ≡ take n slots
   present-same k e = inserted-found less x (take n slots) k (present-from (ltb n (length slots)) (lookup less x (take n slots)) k e)
 
   pub full-room : Full ≡ insertion less x n slots → length slots ≤ n
-  full-room e = ltb-false n (length slots) (full-from (ltb n (length slots)) (lookup less x (take n slots)) e)
+  full-room e = ltb-false n (length slots) (full-from (ltb n (length slots)) (lookup less x (take n slots)) e .0)
+
+  pub full-absent : Full ≡ insertion less x n slots → (k : ℕ) × (lookup less x (take n slots) ≡ Absent k)
+  full-absent e = full-from (ltb n (length slots)) (lookup less x (take n slots)) e .1
 
   module _ (k : ℕ) (e : Placed k ≡ insertion less x n slots) where
     told : (lookup less x (take n slots) ≡ Absent k) × (ltb n (length slots) ≡ true)

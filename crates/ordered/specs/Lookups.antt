@@ -1,6 +1,7 @@
 -- Where an item stands in a list, or would go, and what an insertion leaves. Assumes nothing.
 --     lookup less x xs              the first place of xs whose item is not less than x: found if that item is x, absent otherwise
 --     inserted less x xs            xs with x put there, and xs itself if x is found
+--     sorted less xs                the different items of xs, ascending: each is inserted in turn
 --     insertion less x n slots      the answer of inserting x into the first n items of slots
 --     over xs slots                 slots with its first items replaced by those of xs
 --     slots-after r xs slots        what an insertion that answers r leaves: xs over the slots if it was placed, the slots as they were otherwise
@@ -26,6 +27,10 @@ lookup less x (y ∷ ys) = cond (less y x) (further (lookup less x ys)) (cond (l
 abbrev pub inserted : {X : Type 0} → (X → X → Bool) → X → List X → List X
 inserted less x [] = x ∷ []
 inserted less x (y ∷ ys) = cond (less y x) (y ∷ inserted less x ys) (cond (less x y) (x ∷ y ∷ ys) (y ∷ ys))
+
+abbrev pub sorted : {X : Type 0} → (X → X → Bool) → List X → List X
+sorted less [] = []
+sorted less (x ∷ xs) = inserted less x (sorted less xs)
 
 -- an item that is there is present, room or not
 abbrev pub answered : Bool → Lookup → Insertion

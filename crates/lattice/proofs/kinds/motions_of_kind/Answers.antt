@@ -6,26 +6,21 @@ use lib.ListN.{length}
 use Rattle.std.specs.Iters.{counting}
 use Rattle.std.specs.declared.result.Result.the-variants.{Ok}
 use Rattle.std.specs.shelf.Lists.{kept-by}
+use Rattle.std.proofs.shelf.Tests.{lt-ltb, cond-true}
 use Rattle.ordered.specs.Lookups.{inserted}
 use Rattle.lattice.specs.Kinds.{uses, kind-motions, motions-or-refusal, Closed, set-motions}
-use Rattle.lattice.proofs.Uses.{kept-no, kept-yes, kept-most, kind-closed}
+use Rattle.lattice.proofs.Uses.{kept-no, kept-yes, kind-closed}
 use Rattle.lattice.proofs.kinds.motions_of_kind.Needs as need
 use Rattle.lattice.proofs.kinds.motions_of_kind.Needs.{then-uses, else-uses}
 
-pub add-requires : need.add-requires
-add-requires g c κs =
-    let l = c .args .lattice .now in
-    let few = g .L·Lattice .rules l .few-motions in
-    let test = uses (c .in-Continue-kind .kind) (g .L·Lattice .onesided l) in
-    let small : c .loop-motion .motion < 48 = omega (arith, few, c .motion-count-motion-end .ensures) in
-    record { small = small; room = omega (arith, small, ap length (c .loop-motion .inv), kept-most test (c .loop-motion .motion)) }
-
 pub loop-motion-again : need.loop-motion-again
 loop-motion-again g c =
+    let l = c .args .lattice .now in
     let m = c .loop-motion .motion in
-    let test = uses (c .in-Continue-kind .kind) (g .L·Lattice .onesided (c .args .lattice .now)) in
+    let small : m < 48 = omega (arith, g .L·Lattice .rules l .few-motions, c .motion-count-motion-end .ensures) in
+    let test = uses (c .in-Continue-kind .kind) (g .L·Lattice .onesided l) in
     elim (c .if-uses .came) [
-      | then-uses w ↦ ap set-motions (w .set-is) ∙ w .add .ensures ∙ ap (inserted ltb m) (c .loop-motion .inv) ∙ sym (kept-yes test m (sym (w .if-uses .ensures tt)))
+      | then-uses w ↦ ap set-motions (w .set-is) ∙ w .insert .ensures .after ∙ cond-true (ltb m 48) _ _ (lt-ltb m 48 small) ∙ ap (inserted ltb m) (c .loop-motion .inv) ∙ sym (kept-yes test m (sym (w .if-uses .ensures tt)))
       | else-uses w ↦ ap set-motions (w .set-is) ∙ c .loop-motion .inv ∙ sym (kept-no test m (sym (w .if-uses .ensures tt)))
     ]
 

@@ -4,7 +4,7 @@ use Rattle.std.proofs.shelf.Tests.{false≢true}
 use Rattle.ordered.specs.Members.{In}
 use Rattle.ordered.specs.Lookups.{lookup}
 use Rattle.ordered.proofs.Ascending.{found-in, absent-out}
-use Rattle.ordered.proofs.Counted.{number-order}
+use Rattle.ordered.proofs.Orders.{number-order}
 use Rattle.lattice.specs.Kinds.{set-motions}
 use Rattle.lattice.proofs.Rising.{ascending-from-climbs}
 use Rattle.lattice.proofs.motion_set.MotionSet.contains.Needs as need
