@@ -1,0 +1,10 @@
+pub mod Connected
+pub mod Positions
+pub mod Actions
+pub mod Classes
+pub mod Floods
+pub mod Faults
+pub mod Shapes
+pub mod Members
+pub mod Representatives
+pub mod Entries
