@@ -4,7 +4,6 @@ use lattice::kind::Kind;
 use lattice::kinds::motions_of_kind;
 use lattice::lattice::Lattice;
 use lattice::motion_set::MotionSet;
-use shapes::flooding::is_connected;
 use shapes::representative::least_member;
 use shapes::shape::Shape;
 use shapes::symmetry::orbit;
@@ -12,8 +11,10 @@ use shapes::symmetry::orbit_size;
 use shapes::symmetry::stabiliser;
 use std::error::AnyError;
 use std::fmt;
+use std::io;
 use std::io::BufWriter;
 use std::io::Write;
+use walk::walking::pick_list;
 
 // Cells as a text has them: `0,0,0 1,0,0`.
 #[derive(Clone, Copy)]
@@ -30,11 +31,11 @@ impl fmt::Display for Cells<'_> as CellsDisplay {
     }
 }
 
-// Motion numbers, parted by spaces.
+// Numbers, parted by spaces.
 #[derive(Clone, Copy)]
-struct Numbers<'a>(&'a [u8]);
+struct Numbers<'a, T>(&'a [T]);
 
-impl fmt::Display for Numbers<'_> as NumbersDisplay {
+impl<T: fmt::Display> fmt::Display for Numbers<'_, T> as NumbersDisplay {
     fn fmt<W: fmt::Write>(&self, f: &mut fmt::Formatter<W>) -> fmt::Result {
         for (i, number) in self.0.iter().enumerate() {
             let gap = if i == 0 { "" } else { " " };
@@ -61,27 +62,51 @@ pub fn print_piece<L: Lattice>(
         lattice.title(),
         kind.word()
     )?;
+    write_walk(&mut out, lattice, shape)?;
+    write_class(&mut out, lattice, &set, shape)?;
+    write_orientations(&mut out, lattice, &set, shape)?;
+    out.flush()?;
+    Ok(())
+}
+
+// Size, connectedness and pick list.
+fn write_walk<L: Lattice, O: Write>(out: &mut O, lattice: &L, shape: &Shape) -> io::Result<()> {
     writeln!(out, "size {}", shape.size())?;
-    writeln!(
-        out,
-        "connected: {}",
-        if is_connected(lattice, shape) {
-            "yes"
-        } else {
-            "no"
-        }
-    )?;
-    match least_member(lattice, &set, shape) {
+    match pick_list(lattice, shape) {
+        Some(list) => writeln!(out, "connected: yes\npick list: {}", Numbers(list.picks())),
+        None => writeln!(
+            out,
+            "connected: no\npick list: none, since the piece is not connected"
+        ),
+    }
+}
+
+// Least member, stabiliser and orbit size.
+fn write_class<L: Lattice, O: Write>(
+    out: &mut O,
+    lattice: &L,
+    set: &MotionSet,
+    shape: &Shape,
+) -> io::Result<()> {
+    match least_member(lattice, set, shape) {
         Some(least) => writeln!(out, "least member: {}", Cells(least.cells()))?,
         None => writeln!(out, "least member: none, since the piece is not connected")?,
     }
     writeln!(
         out,
         "stabiliser: {}",
-        Numbers(stabiliser(lattice, &set, shape).as_slice())
+        Numbers(stabiliser(lattice, set, shape).as_slice())
     )?;
-    writeln!(out, "orbit size: {}", orbit_size(lattice, &set, shape))?;
-    for orientation in orbit(lattice, &set, shape).as_slice() {
+    writeln!(out, "orbit size: {}", orbit_size(lattice, set, shape))
+}
+
+fn write_orientations<L: Lattice, O: Write>(
+    out: &mut O,
+    lattice: &L,
+    set: &MotionSet,
+    shape: &Shape,
+) -> io::Result<()> {
+    for orientation in orbit(lattice, set, shape).as_slice() {
         writeln!(
             out,
             "orientation by motion {}: {}",
@@ -89,6 +114,5 @@ pub fn print_piece<L: Lattice>(
             Cells(orientation.placement.cells())
         )?;
     }
-    out.flush()?;
     Ok(())
 }

@@ -13,6 +13,8 @@ use lattices::square::SquareLattice;
 use shapes::classed::entry_of;
 use shapes::shape_fault::ShapeFault;
 use std::test::*;
+use walk::search::Search;
+use walk::walking::pick_list;
 
 // The number of motions that leave the piece's least member as it is and its orbit size, under the free kind.
 fn symmetry<L: Lattice>(lattice: &L, line: &[u8]) -> Option<(usize, u8)> {
@@ -43,6 +45,37 @@ fn dominoes() -> Result<(), Fail> {
         symmetry(&Square, b"square\tfree\t0,0,0 -15,1,0 -15,2,0 15,3,0\n"),
         None,
     )
+}
+
+// How many pick lists of a size a lattice has: as many as fixed pieces.
+fn fixed<L: Lattice>(lattice: &L, size: usize) -> u32 {
+    let mut count = 0u32;
+    if let Ok(mut search) = Search::begin(lattice, size) {
+        for _ in 0..1000 {
+            if !search.advance() {
+                break;
+            }
+            count = count.saturating_add(1);
+        }
+    }
+    count
+}
+
+#[test]
+fn pick_lists() -> Result<(), Fail> {
+    let Ok(request) = read_request(b"square\tfree\t0,0,0 1,0,0 1,1,0\n") else {
+        return Err(Fail::new("a piece"))
+    };
+    let Some(list) = pick_list(&Square, &request.shape) else {
+        return Err(Fail::new("connected"))
+    };
+    check(list.picks() == &[0, 1, 4])?;
+    check_eq(fixed(&Square, 5), 63)?;
+    check_eq(fixed(&Hex, 5), 186)?;
+    check_eq(fixed(&Cubic, 5), 534)?;
+    check(Search::begin(&Square, 0).is_err())?;
+    check(Search::begin(&Square, 17).is_err())?;
+    check(Search::begin(&Cubic, 16).is_ok())
 }
 
 #[test]

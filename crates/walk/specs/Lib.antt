@@ -1,0 +1,13 @@
+pub mod Neighbourhoods
+pub mod Places
+pub mod Lawful
+pub mod Walks
+pub mod Listings
+pub mod Nexts
+pub mod Steps
+pub mod Bounds
+pub mod CellsAround
+pub mod PlaceLists
+pub mod Ends
+pub mod Trails
+pub mod Searches
