@@ -1,5 +1,5 @@
 -- Cells: when two are the same, and their order.
-use mathlib.Core.Path.{_≡_, refl}
+use mathlib.Core.Path.{_≡_}
 use mathlib.Core.Bool.{Bool, true, false, _&&_}
 use Prim.Native.Nat.{ℕ}
 use native.Mathlib.Omega.{arith}
@@ -7,7 +7,7 @@ use lib.Dec.{T}
 use lib.IntN.{ℤ, pos, negℤ}
 use lib.Signed.{_≤ℤ_, ltZ, leZ, leZ-yes}
 use Rattle.std.proofs.shelf.Signed.{ints}
-use Rattle.std.proofs.shelf.Tests.{and-parts, and-from, false≢true}
+use Rattle.std.proofs.shelf.Tests.{and-parts, false≢true}
 use Rattle.ordered.specs.Orders.{Strict-total}
 use Rattle.ordered.proofs.Orders.{list-order}
 use Rattle.lattice.specs.declared.cell.Cell.{Cell}

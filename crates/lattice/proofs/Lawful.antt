@@ -1,23 +1,21 @@
 -- The rules of a lattice whose motions are given by number, from one test that is computed.
-use mathlib.Core.Path.{_≡_, refl, sym, ap, subst, _∙_}
-use mathlib.Core.Bool.{Bool, true, false, cond, not, _&&_, _||_}
+use mathlib.Core.Path.{_≡_, refl, sym, ap, _∙_}
+use mathlib.Core.Bool.{Bool, true, false, not, _&&_, _||_}
 use mathlib.Core.List.{List, [], _∷_, map}
-use mathlib.Core.Logic.{_⊎_, inl, inr, ⊎-elim}
-use Prim.Native.Nat.{ℕ, zero, suc, _+_, _≤_, _<_}
+use mathlib.Core.Logic.{inl, inr, ⊎-elim}
+use Prim.Native.Nat.{ℕ, zero, suc, _≤_, _<_}
 use native.Mathlib.Nat.{zero-add}
-use native.Mathlib.Omega.{arith}
 use lib.Dec.{eqb, leb, ltb}
-use lib.ListN.{length, getD}
+use lib.ListN.{length}
 use Rattle.std.specs.Iters.{counting}
-use Rattle.std.specs.Orderings.{Decides}
 use Rattle.std.specs.shelf.Lists.{All}
 use Rattle.std.specs.shelf.Lawful.{all-pass, distinct-test}
-use Rattle.std.proofs.shelf.Counted.{length-map-counting, getD-map-counting, getD-counting, length-counting}
+use Rattle.std.proofs.shelf.Counted.{length-map-counting, getD-map-counting}
 use Rattle.std.proofs.shelf.Tests.{and-parts, or-cases, eqb-true, ltb-true, lt-ltb, leb-true, true≢false, false≢true, not-true}
-use Rattle.std.proofs.shelf.Ways.{decides-by-and, decides-below-and}
+use Rattle.std.proofs.shelf.Ways.{decides-below-and}
 use Rattle.ordered.specs.Members.{In, No-repeats}
 use Rattle.ordered.proofs.Counting.{Equality}
-use Rattle.ordered.proofs.Members.{in-cast, in-map, from-map, in-getD, getD-from-in, all-from-in}
+use Rattle.ordered.proofs.Members.{in-cast, in-getD, getD-from-in, all-from-in}
 use Rattle.lattice.specs.declared.cell.Cell.{Cell}
 use Rattle.lattice.specs.Cells.{origin, opposite, Within, within}
 use Rattle.lattice.specs.Matrices.{Matrix, image, product, identity, Small, same-matrix}

@@ -1,5 +1,5 @@
 -- The search for the motion that undoes another.
-use mathlib.Core.Path.{_≡_, refl, sym, ap, subst, _∙_}
+use mathlib.Core.Path.{_≡_, refl, sym, ap, _∙_}
 use mathlib.Core.Bool.{Bool, true, false, cond, not}
 use mathlib.Core.Logic.{⊎-elim}
 use mathlib.Core.List.{List}
@@ -11,10 +11,10 @@ use lib.ListN.{length, getD, drop}
 use Rattle.std.specs.Iters.{counting}
 use Rattle.std.specs.shelf.Lists.{leading}
 use Rattle.std.proofs.shelf.Counted.{length-counting, getD-counting}
-use Rattle.std.proofs.shelf.Sums.{leading-drop-yes, leading-drop-no, leading-drop-all}
-use Rattle.std.proofs.shelf.Tests.{eq-eqb, ne-eqb, not-from-true, not-from-false, le-ltb, and-right, cases-lt}
+use Rattle.std.proofs.shelf.Sums.{leading-drop-yes, leading-drop-no}
+use Rattle.std.proofs.shelf.Tests.{eq-eqb, not-from-true, not-from-false, le-ltb, and-right, cases-lt}
 use Rattle.lattice.specs.declared.cell.Cell.{Cell}
-use Rattle.lattice.specs.Matrices.{Matrix, image, identity}
+use Rattle.lattice.specs.Matrices.{Matrix, image}
 use Rattle.lattice.specs.Lattices.{motion, number-after, inverse-number, Rules}
 use Rattle.lattice.proofs.Numbers.{in-turn}
 use Rattle.lattice.proofs.Products.{image-identity}

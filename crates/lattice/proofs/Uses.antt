@@ -1,19 +1,18 @@
 -- The motions of a kind: gathered one by one they are its list, and the list is closed.
-use mathlib.Core.Path.{_≡_, refl, sym, ap, subst, _∙_}
-use mathlib.Core.Bool.{Bool, true, false, cond}
+use mathlib.Core.Path.{_≡_, refl, sym, ap, _∙_}
+use mathlib.Core.Bool.{Bool, true, false}
 use mathlib.Core.List.{List, [], _∷_, _++_, append-nil}
-use Prim.Native.Nat.{ℕ, zero, suc, _+_, _<_, _≤_}
+use Prim.Native.Nat.{ℕ, _+_, _<_}
 use native.Mathlib.Nat.{zero-add}
 use native.Mathlib.Numerals.{add-one}
 use native.Mathlib.Omega.{arith}
-use lib.Dec.{eqb, ltb}
+use lib.Dec.{ltb}
 use lib.ListN.{length}
 use Rattle.std.specs.Iters.{counting}
 use Rattle.std.specs.shelf.Lists.{kept-by}
 use Rattle.std.proofs.shelf.Elements.{kept-by-append}
 use Rattle.std.proofs.shelf.Tests.{lt-ltb, eqb-true, eq-eqb}
 use Rattle.ordered.specs.Members.{In}
-use Rattle.ordered.specs.Orders.{Ascending}
 use Rattle.ordered.specs.Lookups.{inserted}
 use Rattle.ordered.proofs.Ascending.{ascending-kept}
 use Rattle.ordered.proofs.Counted.{counting-suc, from-counting, in-counting, ascending-counting, inserted-last}
@@ -22,7 +21,7 @@ use Rattle.lattice.specs.declared.cell.Cell.{Cell}
 use Rattle.lattice.specs.declared.kind.Kind.{Kind}
 use Rattle.lattice.specs.declared.kind.Kind.the-variants.{Fixed, OneSided, Free}
 use Rattle.lattice.specs.Matrices.{Matrix, product, row-times, identity}
-use Rattle.lattice.specs.Lattices.{motion, number-of, number-after, Rules}
+use Rattle.lattice.specs.Lattices.{motion, number-after, Rules}
 use Rattle.lattice.specs.Kinds.{uses, kind-motions, Closed}
 use Rattle.lattice.proofs.Numbers.{number-at, after-below}
 

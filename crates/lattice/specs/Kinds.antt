@@ -8,7 +8,6 @@
 --     numbered-motions ms os n     those of the kind with the number n, or the refusal 2
 --     Closed ms gs                 gs are ascending numbers of motions of ms, with 0 among them and "g after h" with g and h
 --     set-motions s                the numbers in the set s
-use mathlib.Core.Path.{_≡_}
 use mathlib.Core.Bool.{Bool, true, cond}
 use mathlib.Core.List.{List, [], _∷_}
 use Prim.Native.Nat.{ℕ, zero, suc, _<_}

@@ -1,19 +1,17 @@
 -- Images under the motions of the cubic lattice.
-use mathlib.Core.Path.{_≡_, refl, sym, ap, _∙_}
-use mathlib.Core.Bool.{Bool, true, cond, _&&_}
-use mathlib.Core.List.{List, [], _∷_}
+use mathlib.Core.Path.{_≡_, sym, ap, _∙_}
+use mathlib.Core.Bool.{true}
 use Prim.Native.Nat.{ℕ, zero, suc, _/_, _%_, _<_}
 use native.Mathlib.Nat.{zero-add}
 use native.Mathlib.Omega.{arith}
-use lib.Dec.{ltb}
-use lib.IntN.{ℤ, pos, _+ℤ_, _*ℤ_}
+use lib.IntN.{_*ℤ_}
 use lib.ListN.{length}
 use Rattle.std.proofs.shelf.Counted.{length-map-counting, getD-map-counting}
 use Rattle.std.proofs.shelf.Signed.{ints}
 use Rattle.std.proofs.shelf.Tests.{lt-ltb}
 use Rattle.lattice.specs.declared.cell.Cell.{Cell}
 use Rattle.lattice.specs.Cells.{cell, in-reach}
-use Rattle.lattice.specs.Matrices.{Matrix, image, product, identity}
+use Rattle.lattice.specs.Matrices.{image, identity}
 use Rattle.lattice.specs.Lattices.{image-under}
 use Rattle.lattice.proofs.Coordinates.{cell-same}
 use Rattle.lattice.proofs.Products.{image-product}

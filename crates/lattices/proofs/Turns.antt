@@ -1,20 +1,19 @@
 -- Images under the motions of a lattice of the plane, and what the turns of each do to a cell.
-use mathlib.Core.Path.{_≡_, refl, sym, ap, _∙_}
-use mathlib.Core.Bool.{Bool, true, cond, _&&_}
+use mathlib.Core.Path.{_≡_, sym, ap, _∙_}
+use mathlib.Core.Bool.{true}
 use Prim.Native.Nat.{ℕ, zero, suc, _+_, _-_, _*_, _/_, _%_, _<_, _≤_}
 use native.Mathlib.Nat.{zero-add, mod-eq-of-lt, div-eq-of-lt}
 use native.Mathlib.Omega.{arith}
-use lib.Dec.{ltb}
-use lib.IntN.{ℤ, negℤ, _+ℤ_}
+use lib.IntN.{negℤ, _+ℤ_}
 use lib.ListN.{length}
 use Rattle.std.proofs.shelf.Bits.{div-mul-add, mod-mul-add}
 use Rattle.std.proofs.shelf.Counted.{length-map-counting, getD-map-counting}
 use Rattle.std.proofs.shelf.Signed.{ints}
 use Rattle.std.proofs.shelf.Tests.{lt-ltb}
 use Rattle.lattice.specs.declared.cell.Cell.{Cell}
-use Rattle.lattice.specs.Cells.{cell, in-reach, origin}
-use Rattle.lattice.specs.Matrices.{Matrix, image, product, row-times, identity}
-use Rattle.lattice.specs.Lattices.{motion, image-under}
+use Rattle.lattice.specs.Cells.{cell, in-reach}
+use Rattle.lattice.specs.Matrices.{Matrix, image, identity}
+use Rattle.lattice.specs.Lattices.{image-under}
 use Rattle.lattice.proofs.Coordinates.{cell-same}
 use Rattle.lattice.proofs.Products.{image-product, image-identity}
 use Rattle.lattices.specs.Plane.{swap, swaps, turns, plane-motion, plane-motions}

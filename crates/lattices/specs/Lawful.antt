@@ -3,7 +3,7 @@ use mathlib.Core.Path.{_≡_, refl}
 use mathlib.Core.Bool.{true, cond}
 use Prim.Native.Nat.{ℕ, _-_, _%_}
 use lib.Dec.{ltb}
-use Rattle.lattice.specs.Matrices.{Matrix, image, row-times, product, identity, same-matrix}
+use Rattle.lattice.specs.Matrices.{image, row-times, product, identity, same-matrix}
 use Rattle.lattice.specs.Lattices.{number-after, Rules}
 use Rattle.lattice.proofs.Lawful.{lawful, rules, after-all}
 use Rattle.lattices.specs.Plane.{swap, plane-motion, plane-after}

@@ -4,7 +4,7 @@
 --     plane-motion turn n g     motion g = k + n·e, where n turns are a full circle: first the swap if e is 1, then k turns
 --     plane-motions turn n      the 2n motions, by number
 --     plane-after n g h         the number of "g after h" among them: a swap reverses the turns before it; 0 beyond the count
-use mathlib.Core.Bool.{Bool, cond, _&&_}
+use mathlib.Core.Bool.{cond, _&&_}
 use mathlib.Core.List.{List, map}
 use Prim.Native.Nat.{ℕ, zero, suc, _+_, _-_, _*_, _/_, _%_}
 use lib.Dec.{eqb, ltb}

@@ -1,16 +1,15 @@
 -- What an insertion into the first slots leaves, by its answer.
 use mathlib.Core.Path.{_≡_, refl, sym, ap, _∙_}
-use mathlib.Core.Bool.{Bool, true, false, cond}
-use mathlib.Core.List.{List, [], _∷_, _++_}
-use Prim.Native.Nat.{ℕ, suc, _+_, _<_, _≤_}
+use mathlib.Core.Bool.{Bool, true, false}
+use mathlib.Core.List.{List}
+use Prim.Native.Nat.{ℕ, _+_, _<_, _≤_}
 use native.Mathlib.Omega.{arith}
 use lib.Dec.{ltb}
-use lib.ListN.{length, take, drop, length-append, length-drop, length-take}
+use lib.ListN.{length, take, drop, length-take}
 use lib.Seq.{take-append-seam, drop-append-seam}
 use Rattle.std.proofs.shelf.Tests.{ltb-true, ltb-false}
 use Rattle.ordered.specs.declared.find.Lookup.{Lookup}
 use Rattle.ordered.specs.declared.find.Lookup.the-variants.{Found, Absent}
-use Rattle.ordered.specs.declared.insert.Insertion.{Insertion}
 use Rattle.ordered.specs.declared.insert.Insertion.the-variants.{Placed, Present, Full}
 use Rattle.ordered.specs.Lookups.{lookup, inserted, answered, insertion, over}
 use Rattle.ordered.proofs.Lookups.{inserted-found, length-inserted-absent}

@@ -4,6 +4,7 @@ use lattice::kind::Kind;
 use lattice::kinds::motions_of_kind;
 use lattice::lattice::Lattice;
 use lattice::motion_set::MotionSet;
+use shapes::flooding::is_connected;
 use shapes::representative::least_member;
 use shapes::shape::Shape;
 use shapes::symmetry::orbit;
@@ -71,13 +72,15 @@ pub fn print_piece<L: Lattice>(
 
 // Size, connectedness and pick list.
 fn write_walk<L: Lattice, O: Write>(out: &mut O, lattice: &L, shape: &Shape) -> io::Result<()> {
-    writeln!(out, "size {}", shape.size())?;
+    let connected = if is_connected(lattice, shape) {
+        "yes"
+    } else {
+        "no"
+    };
+    writeln!(out, "size {}\nconnected: {connected}", shape.size())?;
     match pick_list(lattice, shape) {
-        Some(list) => writeln!(out, "connected: yes\npick list: {}", Numbers(list.picks())),
-        None => writeln!(
-            out,
-            "connected: no\npick list: none, since the piece is not connected"
-        ),
+        Some(list) => writeln!(out, "pick list: {}", Numbers(list.picks())),
+        None => writeln!(out, "pick list: none, since the piece is not connected"),
     }
 }
 

@@ -19,7 +19,7 @@ use Rattle.lattice.proofs.Coordinates.{cell-order}
 use Rattle.shapes.specs.Connected.{Connected}
 use Rattle.shapes.specs.Positions.{neighbours, Normal-position, Short-of}
 use Rattle.shapes.specs.Actions.{Acts}
-use Rattle.shapes.specs.Classes.{same-cells, cells-less, moved, Member-of, Classes-hold}
+use Rattle.shapes.specs.Classes.{same-cells, cells-less, moved, Member-of, Class-laws}
 use Rattle.shapes.proofs.Actions.{equivalence}
 use Rattle.shapes.proofs.Leasts.{least-laws}
 use Rattle.shapes.proofs.Orbits.{orbit-laws}
@@ -58,7 +58,7 @@ module _ {name : List ℕ} {ds : List Cell} {ms : List Matrix} {os : ℕ → Boo
   pub member-reach : (s t : List Cell) → Normal-position s → Connected (neighbours ds) origin s → Member-of ms gs s t → (x : Cell) → In x t → Short-of (length s) x
   member-reach s t k con u x h = subst (λ (n : ℕ). Short-of n x) (member-length s t k u) (reached-short ds t (R .directions-short) x (member-connected s t u con x h))
 
-pub classes-hold : Classes-hold
+pub classes-hold : (name : List ℕ) (ds : List Cell) (ms : List Matrix) (os : ℕ → Bool) (gs : List ℕ) → Rules name ds ms os → Closed ms gs → Class-laws ds ms gs
 classes-hold name ds ms os gs R C =
     let A = motions-act R C in
     let E = equivalence Normal-position gs (number-after ms) (moved ms) A in

@@ -9,15 +9,18 @@
 --     Equivalence Good gs act              being a member of is an equivalence
 --     Least-laws Good less gs act          the least of the members is one of them, none is less, and all members have the same
 --     Orbit-laws Good less same gs act     the orbit holds the members; its size times the length of the stabiliser is the length of gs
+--     Action-laws good less same gs act    all three, of those that pass the test `good`
+--     Actions X                            so it is wherever such a set acts, with a total order `less` and a test `same` of equality
 use mathlib.Core.Path.{_≡_}
 use mathlib.Core.List.{List, map}
 use mathlib.Core.Bool.{Bool, true}
 use Prim.Native.Nat.{ℕ, _*_}
 use lib.ListN.{length}
+use Rattle.std.specs.Orderings.{Decides}
 use Rattle.std.specs.shelf.Lists.{kept-by}
 use Rattle.std.specs.shelf.Bests.{best-of}
 use Rattle.ordered.specs.Members.{In, No-repeats}
-use Rattle.ordered.specs.Orders.{Ascending}
+use Rattle.ordered.specs.Orders.{Strict-total, Ascending}
 use Rattle.ordered.specs.Lookups.{sorted}
 
 pub record Acts {X : Type 0} (Good : X → Type 0) (gs : List ℕ) (after : ℕ → ℕ → ℕ) (act : ℕ → X → X) : Type 0 where
@@ -62,3 +65,11 @@ pub record Orbit-laws {X : Type 0} (Good : X → Type 0) (less same : X → X �
   pub members : (x y : X) → In y (orbit less gs act x) → Member gs act x y
   pub all-members : (x y : X) → Member gs act x y → In y (orbit less gs act x)
   pub times-stabiliser : (x : X) → Good x → orbit-size less gs act x * length (stabiliser same gs act x) ≡ length gs
+
+pub record Action-laws {X : Type 0} (good : X → Bool) (less same : X → X → Bool) (gs : List ℕ) (act : ℕ → X → X) : Type 0 where
+  pub equivalence : Equivalence (λ x. good x ≡ true) gs act
+  pub leasts : Least-laws (λ x. good x ≡ true) less gs act
+  pub orbits : Orbit-laws (λ x. good x ≡ true) less same gs act
+
+abbrev pub Actions : Type 0 → Type 0
+Actions X = (good : X → Bool) (less same : X → X → Bool) (gs : List ℕ) (after : ℕ → ℕ → ℕ) (act : ℕ → X → X) → Strict-total less → ((x y : X) → Decides (same x y) (x ≡ y)) → Acts (λ x. good x ≡ true) gs after act → Action-laws good less same gs act

@@ -8,7 +8,6 @@
 --     orbit-of ms gs s         the different members of s, ascending
 --     orbit-size-of ms gs s    how many they are
 --     Class-laws ds ms gs      what holds of classes, with the directions ds
---     Classes-hold             that it holds for every lattice and every closed set of its motions
 use mathlib.Core.Path.{_≡_}
 use mathlib.Core.List.{List, map}
 use mathlib.Core.Bool.{Bool, true}
@@ -20,8 +19,7 @@ use Rattle.ordered.specs.Orders.{Ascending, comparison, list-less}
 use Rattle.lattice.specs.declared.cell.Cell.{Cell}
 use Rattle.lattice.specs.Cells.{origin, cell-less}
 use Rattle.lattice.specs.Matrices.{Matrix, image}
-use Rattle.lattice.specs.Lattices.{motion, Rules}
-use Rattle.lattice.specs.Kinds.{Closed}
+use Rattle.lattice.specs.Lattices.{motion}
 use Rattle.shapes.specs.Connected.{Connected}
 use Rattle.shapes.specs.Positions.{neighbours, normal, Normal-position, Short-of}
 use Rattle.shapes.specs.Actions.{Member, least-of, stabiliser, orbit}
@@ -72,6 +70,3 @@ pub record Class-laws (ds : List Cell) (ms : List Matrix) (gs : List ℕ) : Type
   -- No coordinate of a connected shape, or of a member of it, reaches the number of its cells in size.
   pub reach : (s : List Cell) → Normal-position s → Connected (neighbours ds) origin s → (x : Cell) → In x s → Short-of (length s) x
   pub member-reach : (s t : List Cell) → Normal-position s → Connected (neighbours ds) origin s → Member-of ms gs s t → (x : Cell) → In x t → Short-of (length s) x
-
-abbrev pub Classes-hold : Type 0
-Classes-hold = (name : List ℕ) (ds : List Cell) (ms : List Matrix) (os : ℕ → Bool) (gs : List ℕ) → Rules name ds ms os → Closed ms gs → Class-laws ds ms gs

@@ -4,10 +4,8 @@
 --     entry-for ms gs s               the shape s with its stabiliser and its orbit size
 --     entry-if-connected ds ms gs s   the entry of the class of s under those of the motions gs that ms has, if s is connected
 use mathlib.Core.List.{List}
-use mathlib.Core.Bool.{cond}
 use Prim.Native.Nat.{ℕ}
 use Rattle.std.specs.declared.option.Option.{Option}
-use Rattle.std.specs.declared.option.Option.the-variants.{Some, None}
 use Rattle.std.specs.Options.{mapped}
 use Rattle.lattice.specs.declared.cell.Cell.{Cell}
 use Rattle.lattice.specs.Kinds.{set-motions}

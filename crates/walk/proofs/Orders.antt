@@ -4,9 +4,8 @@ use mathlib.Core.List.{List, [], _∷_, _++_}
 use mathlib.Core.Bool.{Bool, true}
 use mathlib.Core.Logic.{inl, inr, ⊎-elim}
 use Prim.Native.Nat.{ℕ, _<_}
-use native.Mathlib.Omega.{arith}
 use lib.Dec.{ltb}
-use Rattle.std.proofs.shelf.Tests.{ltb-true, lt-ltb, cases-order}
+use Rattle.std.proofs.shelf.Tests.{lt-ltb}
 use Rattle.ordered.specs.Members.{In}
 use Rattle.ordered.specs.Orders.{Strict-total, Ascending, list-less}
 use Rattle.ordered.proofs.Members.{from-append}

@@ -6,7 +6,6 @@
 --                            since the last place may be picked and put no cell on the list
 --     next-from g P p        the next picks after p, from the place list P on: the picks behind the first are raised if they can be;
 --                            if not, the first is, and the lowest follow
---     next-picks g p         the next lawful pick list
 --     Least A r              r is the least list of which A holds
 --     Next g n P i           lowest gives the least lawful picks, and next-from the least lawful ones after given ones
 --     Nexts X                so it is in every neighbourhood of cells X
@@ -21,7 +20,7 @@ use Rattle.std.specs.declared.option.Option.{Option}
 use Rattle.std.specs.declared.option.Option.the-variants.{Some, None}
 use Rattle.ordered.specs.Orders.{list-less}
 use Rattle.walk.specs.Neighbourhoods.{Neighbourhood}
-use Rattle.walk.specs.Places.{after-pick, first-places}
+use Rattle.walk.specs.Places.{after-pick}
 use Rattle.walk.specs.Lawful.{Lawful-from}
 
 abbrev pub or-else : Option (List ℕ) → Option (List ℕ) → Option (List ℕ)
@@ -43,9 +42,6 @@ lowest g (suc n) P i = first-way (λ q. lowest g n (after-pick g P q) (q + 1)) (
 abbrev pub next-from : {X : Type 0} → Neighbourhood X → List X → List ℕ → Option (List ℕ)
 next-from g P [] = None
 next-from g P (q ∷ p) = or-else (in-front q (next-from g (after-pick g P q) p)) (lowest g (suc (length p)) P (q + 1))
-
-abbrev pub next-picks : {X : Type 0} → Neighbourhood X → List ℕ → Option (List ℕ)
-next-picks g p = next-from g (first-places g) p
 
 abbrev pub Least : (List ℕ → Type 0) → List ℕ → Type 0
 Least A r = A r × ((s : List ℕ) → A s → (s ≡ r) ⊎ (list-less ltb r s ≡ true))

@@ -1,5 +1,5 @@
 use mathlib.Core.Path.{_≡_, sym, ap, _∙_}
-use Prim.Native.Nat.{ℕ, _+_, _<_}
+use Prim.Native.Nat.{_+_, _<_}
 use native.Mathlib.Omega.{arith}
 use lib.Dec.{eqb}
 use lib.ListN.{length, drop}
@@ -8,8 +8,8 @@ use Rattle.std.proofs.shelf.Sums.{leading-drop-all}
 use Rattle.std.specs.Iters.{counting}
 use Rattle.std.specs.shelf.Lists.{leading}
 use Rattle.std.proofs.shelf.Tests.{eq-eqb, ne-eqb}
-use mathlib.Core.Bool.{true, false, not}
-use Rattle.lattice.specs.Lattices.{number-after, inverse-number}
+use mathlib.Core.Bool.{false, not}
+use Rattle.lattice.specs.Lattices.{number-after}
 use Rattle.lattice.proofs.Undoing.{seek-found, seek-on, inverse-below, undoes}
 use Rattle.lattice.proofs.inverse.inverse.Needs as need
 

@@ -1,8 +1,7 @@
-use mathlib.Core.Path.{refl, sym, subst, _∙_}
+use mathlib.Core.Path.{refl, sym, subst}
 use lib.Dec.{ltb}
 use Rattle.std.proofs.shelf.Tests.{false≢true}
 use Rattle.ordered.specs.Members.{In}
-use Rattle.ordered.specs.Lookups.{lookup}
 use Rattle.ordered.proofs.Ascending.{found-in, absent-out}
 use Rattle.ordered.proofs.Orders.{number-order}
 use Rattle.lattice.specs.Kinds.{set-motions}

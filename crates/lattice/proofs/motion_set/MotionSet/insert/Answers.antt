@@ -1,11 +1,9 @@
 use mathlib.Core.Path.{_≡_, sym, _∙_}
-use mathlib.Core.Bool.{cond}
 use Prim.Native.Nat.{_<_}
 use native.Mathlib.Omega.{arith}
 use lib.Dec.{ltb}
 use lib.ListN.{length}
-use Rattle.std.proofs.shelf.Tests.{lt-ltb, ltb-true, le-ltb, cond-true}
-use Rattle.ordered.specs.Lookups.{inserted}
+use Rattle.std.proofs.shelf.Tests.{lt-ltb, cond-true}
 use Rattle.ordered.proofs.Ascending.{absent-out}
 use Rattle.ordered.proofs.Orders.{number-order}
 use Rattle.ordered.proofs.Slots.{present-same, placed-room, full-room, full-absent}
