@@ -46,7 +46,7 @@ impl<T: fmt::Display> fmt::Display for Numbers<'_, T> as NumbersDisplay {
     }
 }
 
-pub fn print_piece<L: Lattice>(
+pub(super) fn print_piece<L: Lattice>(
     rt: &LibcRuntime,
     lattice: &L,
     kind: Kind,

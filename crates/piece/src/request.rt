@@ -26,7 +26,7 @@ struct CellList {
     count: usize,
 }
 
-pub fn read_request(line: &[u8]) -> Result<Request, Complaint> {
+pub(super) fn read_request(line: &[u8]) -> Result<Request, Complaint> {
     let Ok(text) = std::str::from_utf8(line) else {
         return Err(Complaint::Form(Field::Line));
     };
