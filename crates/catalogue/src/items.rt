@@ -25,9 +25,9 @@ pub(crate) trait Item {
 
 // Writes the mark and the item behind what a buffer holds up to `at`, and tells where they end.
 pub(crate) fn put_behind<T: Item>(buffer: &mut [u8], at: usize, mark: u8, item: &T) -> usize
-    requires { at + (1 + length (text item.now)) ≤ length buffer.old }
-    ensures value { result ≡ at + (1 + length (text item.now)) }
-    ensures after { Goes_on at (mark ∷ text item.now) buffer.old buffer.new }
+    requires { at + (1 + length (T.text item.now)) ≤ length buffer.old }
+    ensures value { result ≡ at + (1 + length (T.text item.now)) }
+    ensures after { Goes_on at (mark ∷ T.text item.now) buffer.old buffer.new }
 {
     buffer[at] = mark;
     at + 1 + item.put(&mut buffer[at + 1..])

@@ -7,7 +7,7 @@ use crate::items::{Item, put_behind};
 // How long the items are, each behind one byte.
 pub(crate) fn list_length<T: Item>(items: &[T]) -> usize
     requires { length items.now ≤ 48 }
-    ensures value { result ≡ length (led 9 (map text items.now)) }
+    ensures value { result ≡ length (led 9 (map T.text items.now)) }
     ensures few { result ≤ 21 * length items.now }
 {
     let mut total = 0;
@@ -19,9 +19,9 @@ pub(crate) fn list_length<T: Item>(items: &[T]) -> usize
 
 // Writes the items behind what a buffer holds up to `at`, the first behind a tab and each other one behind a space, and tells where they end.
 pub(crate) fn put_list<T: Item>(buffer: &mut [u8], at: usize, items: &[T]) -> usize
-    requires { at + length (led 9 (map text items.now)) ≤ length buffer.old }
-    ensures value { result ≡ at + length (led 9 (map text items.now)) }
-    ensures after { Goes_on at (led 9 (map text items.now)) buffer.old buffer.new }
+    requires { at + length (led 9 (map T.text items.now)) ≤ length buffer.old }
+    ensures value { result ≡ at + length (led 9 (map T.text items.now)) }
+    ensures after { Goes_on at (led 9 (map T.text items.now)) buffer.old buffer.new }
 {
     let mut end = at;
     let mut mark = b'\t';

@@ -15,8 +15,8 @@ use sources::source::Source;
 
 // Runs a source to its end. None if a u64 cannot hold the count.
 fn count<S: Source>(source: &mut S) -> Option<u64>
-    ensures value { SomeIff result (length (ahead (stands source.old)) < 2 ^ 64) (length (ahead (stands source.old))) }
-    ensures through { is_some result ≡ true → ahead (stands source.new) ≡ [] }
+    ensures value { SomeIff result (length (ahead (S.stands source.old)) < 2 ^ 64) (length (ahead (S.stands source.old))) }
+    ensures through { is_some result ≡ true → ahead (S.stands source.new) ≡ [] }
 {
     let mut entry = Entry::blank();
     let mut counted = 0u64;
@@ -28,7 +28,7 @@ fn count<S: Source>(source: &mut S) -> Option<u64>
 
 // How many classes of a size a lister hands out. None if it is not opened or a u64 cannot hold the count.
 pub(super) fn count_listed<L: Lattice + Drop>(lattice: L, size: usize, kind: Kind) -> Option<u64>
-    ensures { MatchResult (opening_for (directions lattice) (motions lattice) (onesided lattice) size (kind_number kind)) (λ o. SomeIff result (length (listing o) < 2 ^ 64) (length (listing o))) (λ _. is_some result ≡ false) }
+    ensures { MatchResult (opening_for (L.directions lattice) (L.motions lattice) (L.onesided lattice) size (kind_number kind)) (λ o. SomeIff result (length (listing o) < 2 ^ 64) (length (listing o))) (λ _. is_some result ≡ false) }
 {
     let Ok(mut lister) = Lister::open(lattice, size, kind.number()) else {
         return None;

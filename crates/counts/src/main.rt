@@ -1,4 +1,6 @@
 // Compares the lister with published counts, and shows a run of calls and of a pile of sieves.
+#![tactic(auto)]
+
 mod counting;
 mod published;
 mod runs;

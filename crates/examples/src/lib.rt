@@ -1,4 +1,6 @@
 // The examples of the rules, worked out from the definitions.
+#![tactic(auto)]
+
 ghost use Rattle.examples.specs.Worked.{WorkedExamples};
 
 // The worked examples of docs/RULES.md hold of the definitions.

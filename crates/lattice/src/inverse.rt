@@ -8,8 +8,8 @@ use crate::lattice::Lattice;
 
 // The lowest number h for which "h after motion" is motion 0: it takes every cell back. 0 for a number beyond the count.
 pub fn inverse<L: Lattice>(lattice: &L, motion: u8) -> u8
-    ensures value { result ≡ inverse_number (motions lattice.now) motion }
-    ensures undoes { motion < length (motions lattice.now) → (x : Cell) → carry (numbered (motions lattice.now) result) (carry (numbered (motions lattice.now) motion) x) ≡ x }
+    ensures value { result ≡ inverse_number (L.motions lattice.now) motion }
+    ensures undoes { motion < length (L.motions lattice.now) → (x : Cell) → carry (numbered (L.motions lattice.now) result) (carry (numbered (L.motions lattice.now) motion) x) ≡ x }
 {
     for h in 0..lattice.motion_count() {
         if lattice.after(h, motion) == 0 {

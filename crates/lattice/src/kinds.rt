@@ -60,8 +60,8 @@ impl Kind {
     }
 
     fn uses<L: Lattice>(self, lattice: &L, motion: u8) -> bool
-        requires { motion < length (motions lattice.now) }
-        ensures { result ≡ uses_motion self (onesided lattice.now) motion }
+        requires { motion < length (L.motions lattice.now) }
+        ensures { result ≡ uses_motion self (L.onesided lattice.now) motion }
     {
         match self {
             Kind::Fixed => motion == 0,
@@ -74,8 +74,8 @@ impl Kind {
 // The ascending list of the motions of the kind with this number; refused by 2 if there is none.
 // It has 0, and "g after h" whenever it has g and h.
 pub fn motions_of_kind<L: Lattice>(lattice: &L, kind: u8) -> Result<MotionSet, Refusal>
-    ensures value { answer set_motions result ≡ numbered_motions (motions lattice.now) (onesided lattice.now) kind }
-    ensures closed { (s : MotionSet) → result ≡ Ok s → Closed (motions lattice.now) (set_motions s) }
+    ensures value { answer set_motions result ≡ numbered_motions (L.motions lattice.now) (L.onesided lattice.now) kind }
+    ensures closed { (s : MotionSet) → result ≡ Ok s → Closed (L.motions lattice.now) (set_motions s) }
 {
     let kind = Kind::numbered(kind)?;
     let mut set = MotionSet::identity();

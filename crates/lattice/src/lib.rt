@@ -1,4 +1,6 @@
 // Cells, the interface of a lattice, its kinds, and the refusals.
+#![tactic(auto)]
+
 pub mod cell;
 pub mod cells;
 pub mod inverse;

@@ -8,7 +8,7 @@ use crate::rows::Rows;
 
 // The matrix of a motion; all zeros for a number beyond the count.
 pub fn matrix<L: Lattice>(lattice: &L, motion: u8) -> Rows
-    ensures { matrix_of result ≡ matrix_under (motions lattice.now) motion }
+    ensures { matrix_of result ≡ matrix_under (L.motions lattice.now) motion }
 {
     let x = lattice.image(motion, Cell { a: 1, b: 0, c: 0 });
     let y = lattice.image(motion, Cell { a: 0, b: 1, c: 0 });

@@ -1,4 +1,6 @@
 // The square, hex and cubic lattices.
+#![tactic(auto)]
+
 pub mod cubic;
 mod cubic_table;
 pub mod hex;

@@ -1,4 +1,6 @@
 // Listing all classes of a size: the lister, where a class is, and the law of whole runs.
+#![tactic(auto)]
+
 pub mod calls;
 pub mod lister;
 pub mod listers;

@@ -15,8 +15,8 @@ use sources::source::Source;
 
 // One next of any source, and its answer.
 fn one_next<S: Source>(source: &mut S) -> Answer
-    ensures step { Replied (stands source.old) result (stands source.new) }
-    ensures others { kept source.old source.new }
+    ensures step { Replied (S.stands source.old) result (S.stands source.new) }
+    ensures others { S.kept source.old source.new }
 {
     let mut entry = Entry::blank();
     match source.next(&mut entry) {
@@ -42,7 +42,7 @@ fn make_nexts<S: Source>(
     replies: &mut Vec<Answer>,
 ) -> Result<(), Stop>
     requires { replies.old.items ≡ [] }
-    ensures right { RightNexts (ahead (stands source.old)) nexts replies.new.items }
+    ensures right { RightNexts (ahead (S.stands source.old)) nexts replies.new.items }
     ensures ran { Made (length replies.new.items) nexts result }
 {
     for _k in 0..nexts {

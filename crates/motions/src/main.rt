@@ -1,4 +1,6 @@
 // Prints the motions of a lattice, whose name it reads as one line from standard input.
+#![tactic(auto)]
+
 mod formula;
 #[cfg(test)]
 mod tests;

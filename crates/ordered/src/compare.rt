@@ -8,8 +8,8 @@ use std::cmp::Ordering;
 // The lesser item at the first difference decides; a beginning is less than the whole.
 // Lists are thereby totally ordered themselves.
 pub fn compare<T: TotalOrder>(xs: &[T], ys: &[T]) -> Ordering
-    ensures value { result ≡ comparison less xs.now ys.now }
-    ensures total { StrictTotal (list_less less) }
+    ensures value { result ≡ comparison T.less xs.now ys.now }
+    ensures total { StrictTotal (list_less T.less) }
 {
     for (x, y) in xs.iter().zip(ys) {
         match x.order(y) {

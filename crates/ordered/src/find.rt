@@ -14,7 +14,7 @@ pub enum Lookup {
 
 // The first place whose item is not less than `x`, and whether that item is `x`. An ascending list has `x` exactly if it is found.
 pub fn find<T: TotalOrder>(xs: &[T], x: &T) -> Lookup
-    ensures { result ≡ lookup less x.now xs.now }
+    ensures { result ≡ lookup T.less x.now xs.now }
 {
     for (i, y) in xs.iter().enumerate() {
         match y.order(x) {

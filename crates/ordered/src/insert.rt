@@ -17,9 +17,9 @@ pub enum Insertion {
 
 // Inserts `item` into the list of the first `count` slots, before the first item that is not less.
 pub fn insert<T: TotalOrder + Copy>(slots: &mut [T], count: usize, item: T) -> Insertion
-    ensures answer { result ≡ insertion less item count slots.old }
-    ensures after { slots.new ≡ slots_after result (inserted less item (take count slots.old)) slots.old }
-    ensures ascends { Ascending less (take count slots.old) → Ascending less (inserted less item (take count slots.old)) }
+    ensures answer { result ≡ insertion T.less item count slots.old }
+    ensures after { slots.new ≡ slots_after result (inserted T.less item (take count slots.old)) slots.old }
+    ensures ascends { Ascending T.less (take count slots.old) → Ascending T.less (inserted T.less item (take count slots.old)) }
 {
     let used = count.min(slots.len());
     match find(&slots[0..used], &item) {

@@ -1,4 +1,6 @@
 // Lists over any kind of item that has a total order: comparing two, finding an item, and inserting one.
+#![tactic(auto)]
+
 pub mod compare;
 pub mod find;
 pub mod insert;

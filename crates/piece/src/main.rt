@@ -1,4 +1,6 @@
 // Says what a piece is: reads one line from standard input, a lattice's name, a kind and cells.
+#![tactic(auto)]
+
 mod complaint;
 mod report;
 mod request;

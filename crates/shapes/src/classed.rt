@@ -15,7 +15,7 @@ use lattice::motion_set::MotionSet;
 // The least member of the shape with its stabiliser and orbit size, under the motions of a set that the lattice has.
 // None if the shape is not connected.
 pub fn entry_of<L: Lattice>(lattice: &L, set: &MotionSet, shape: &Shape) -> Option<Entry>
-    ensures { option_map entry_values result ≡ entry_if_connected (directions lattice.now) (motions lattice.now) (set_motions set.now) (shape_cells shape.now) }
+    ensures { option_map entry_values result ≡ entry_if_connected (L.directions lattice.now) (L.motions lattice.now) (set_motions set.now) (shape_cells shape.now) }
 {
     match least_member(lattice, set, shape) {
         None => None,

@@ -32,7 +32,7 @@ fn is_same(x: Cell, y: Cell) -> bool
 // y is x, or next to it.
 fn is_at<L: Lattice>(lattice: &L, x: Cell, y: Cell) -> bool
     requires { Within 15 x }
-    ensures { result ≡ (same_cell x y || some_pass (same_cell y) (neighbours (directions lattice.now) x)) }
+    ensures { result ≡ (same_cell x y || some_pass (same_cell y) (neighbours (L.directions lattice.now) x)) }
 {
     if is_same(x, y) {
         return true;
@@ -47,7 +47,7 @@ fn is_at<L: Lattice>(lattice: &L, x: Cell, y: Cell) -> bool
 
 // y is a marked cell of the shape, or next to one.
 fn touches<L: Lattice>(lattice: &L, shape: &Shape, marks: &[bool; 16], y: Cell) -> bool
-    ensures { result ≡ touching same_cell (neighbours (directions lattice.now)) (marked (shape_cells shape.now) marks.now) y }
+    ensures { result ≡ touching same_cell (neighbours (L.directions lattice.now)) (marked (shape_cells shape.now) marks.now) y }
 {
     for (i, x) in shape.cells().iter().enumerate() {
         if marks[i] && is_at(lattice, *x, y) {
@@ -59,7 +59,7 @@ fn touches<L: Lattice>(lattice: &L, shape: &Shape, marks: &[bool; 16], y: Cell) 
 
 // Marks what is marked or next to a marked cell.
 fn spread<L: Lattice>(lattice: &L, shape: &Shape, marks: &[bool; 16]) -> [bool; 16]
-    ensures { marked (shape_cells shape.now) result ≡ spreading same_cell (neighbours (directions lattice.now)) (shape_cells shape.now) (marked (shape_cells shape.now) marks.now) }
+    ensures { marked (shape_cells shape.now) result ≡ spreading same_cell (neighbours (L.directions lattice.now)) (shape_cells shape.now) (marked (shape_cells shape.now) marks.now) }
 {
     let mut next = [false; 16];
     for (i, y) in shape.cells().iter().enumerate() {
@@ -70,7 +70,7 @@ fn spread<L: Lattice>(lattice: &L, shape: &Shape, marks: &[bool; 16]) -> [bool; 
 
 // Marks all that is reached from the origin, the first cell, in rounds until one adds nothing.
 fn flood<L: Lattice>(lattice: &L, shape: &Shape) -> [bool; 16]
-    ensures { marked (shape_cells shape.now) result ≡ flooding same_cell (neighbours (directions lattice.now)) origin (shape_cells shape.now) }
+    ensures { marked (shape_cells shape.now) result ≡ flooding same_cell (neighbours (L.directions lattice.now)) origin (shape_cells shape.now) }
 {
     let mut marks = [false; 16];
     marks[0] = true;
@@ -97,8 +97,8 @@ fn are_all_marked(shape: &Shape, marks: &[bool; 16]) -> bool
 
 // Every cell is reached from the origin by steps in the lattice's directions, all the way within the shape.
 pub fn is_connected<L: Lattice>(lattice: &L, shape: &Shape) -> bool
-    ensures value { result ≡ connected (directions lattice.now) (shape_cells shape.now) }
-    ensures exact { Decides result (Connected (neighbours (directions lattice.now)) origin (shape_cells shape.now)) }
+    ensures value { result ≡ connected (L.directions lattice.now) (shape_cells shape.now) }
+    ensures exact { Decides result (Connected (neighbours (L.directions lattice.now)) origin (shape_cells shape.now)) }
 {
     are_all_marked(shape, &flood(lattice, shape))
 }

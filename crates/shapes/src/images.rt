@@ -58,7 +58,7 @@ impl Placement {
 
 // The images of a shape's cells under a motion, listed ascending.
 fn images<L: Lattice>(lattice: &L, motion: u8, shape: &Shape) -> Placement
-    ensures { placement_cells result ≡ in_order cell_less (map (image_under (motions lattice.now) motion) (shape_cells shape.now)) }
+    ensures { placement_cells result ≡ in_order cell_less (map (image_under (L.motions lattice.now) motion) (shape_cells shape.now)) }
 {
     let mut placement = Placement::empty();
     for x in shape.cells() {
@@ -96,8 +96,8 @@ fn shift(placement: &mut Placement)
 
 // The member of a shape under a motion. Beyond the count of motions every image is (0,0,0), and so is the member.
 pub fn member<L: Lattice>(lattice: &L, motion: u8, shape: &Shape) -> Placement
-    ensures value { placement_cells result ≡ member_under (motions lattice.now) motion (shape_cells shape.now) }
-    ensures image { motion < length (motions lattice.now) → placement_cells result ≡ moved (motions lattice.now) motion (shape_cells shape.now) }
+    ensures value { placement_cells result ≡ member_under (L.motions lattice.now) motion (shape_cells shape.now) }
+    ensures image { motion < length (L.motions lattice.now) → placement_cells result ≡ moved (L.motions lattice.now) motion (shape_cells shape.now) }
 {
     let mut placement = images(lattice, motion, shape);
     shift(&mut placement);

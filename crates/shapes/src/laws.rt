@@ -15,5 +15,5 @@ pub fn action_laws_hold<T>(_at: &T)
 // The same for the shapes of every lattice and every closed set of its motions; members of a connected shape are
 // connected and stay within reach.
 pub fn class_laws_hold<L: Lattice>(lattice: &L)
-    ensures { (gs : List ℕ) → Closed (motions lattice.now) gs → ClassLaws (directions lattice.now) (motions lattice.now) gs }
+    ensures { (gs : List ℕ) → Closed (L.motions lattice.now) gs → ClassLaws (L.directions lattice.now) (L.motions lattice.now) gs }
 {}

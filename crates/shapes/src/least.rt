@@ -13,7 +13,7 @@ use ordered::compare::compare;
 
 // Whether a motion of the lattice makes a lesser member. Motion 0 makes the shape itself.
 fn makes_less<L: Lattice>(lattice: &L, motion: u8, shape: &Shape) -> bool
-    ensures { result ≡ (nat_lt motion (length (motions lattice.now)) && cells_less (moved (motions lattice.now) motion (shape_cells shape.now)) (shape_cells shape.now)) }
+    ensures { result ≡ (nat_lt motion (length (L.motions lattice.now)) && cells_less (moved (L.motions lattice.now) motion (shape_cells shape.now)) (shape_cells shape.now)) }
 {
     if motion == 0 {
         return false;
@@ -25,8 +25,8 @@ fn makes_less<L: Lattice>(lattice: &L, motion: u8, shape: &Shape) -> bool
 // Whether the shape is its own least member under the motions of a set that the lattice has.
 // It takes the motions ascending, and stops at the first image that is less.
 pub fn is_least<L: Lattice>(lattice: &L, set: &MotionSet, shape: &Shape) -> bool
-    ensures value { result ≡ same_cells (least_cells (motions lattice.now) (usable (motions lattice.now) (set_motions set.now)) (shape_cells shape.now)) (shape_cells shape.now) }
-    ensures closed { Closed (motions lattice.now) (set_motions set.now) → result ≡ same_cells (least_cells (motions lattice.now) (set_motions set.now) (shape_cells shape.now)) (shape_cells shape.now) }
+    ensures value { result ≡ same_cells (least_cells (L.motions lattice.now) (usable (L.motions lattice.now) (set_motions set.now)) (shape_cells shape.now)) (shape_cells shape.now) }
+    ensures closed { Closed (L.motions lattice.now) (set_motions set.now) → result ≡ same_cells (least_cells (L.motions lattice.now) (set_motions set.now) (shape_cells shape.now)) (shape_cells shape.now) }
 {
     for motion in set.as_slice() {
         if makes_less(lattice, *motion, shape) {

@@ -1,4 +1,6 @@
 // Shapes and their classes.
+#![tactic(auto)]
+
 pub mod arranging;
 pub mod classed;
 pub mod coordinates;

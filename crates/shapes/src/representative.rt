@@ -18,9 +18,9 @@ use ordered::compare::compare;
 
 // The member of the shape under the motion, if it is less than the least so far.
 fn lesser<L: Lattice>(lattice: &L, motion: u8, shape: &Shape, least: Shape) -> Shape
-    requires joined { Connected (neighbours (directions lattice.now)) origin (shape_cells shape.now) }
-    requires known { motion < length (motions lattice.now) }
-    ensures { shape_cells result ≡ (if cells_less (moved (motions lattice.now) motion (shape_cells shape.now)) (shape_cells least) then moved (motions lattice.now) motion (shape_cells shape.now) else shape_cells least) }
+    requires joined { Connected (neighbours (L.directions lattice.now)) origin (shape_cells shape.now) }
+    requires known { motion < length (L.motions lattice.now) }
+    ensures { shape_cells result ≡ (if cells_less (moved (L.motions lattice.now) motion (shape_cells shape.now)) (shape_cells least) then moved (L.motions lattice.now) motion (shape_cells shape.now) else shape_cells least) }
 {
     let placed = member(lattice, motion, shape);
     if !compare(placed.cells(), least.cells()).is_lt() {
@@ -34,7 +34,7 @@ fn lesser<L: Lattice>(lattice: &L, motion: u8, shape: &Shape, least: Shape) -> S
 
 // The least member under the motions of a set that the lattice has. None if the shape is not connected.
 pub fn least_member<L: Lattice>(lattice: &L, set: &MotionSet, shape: &Shape) -> Option<Shape>
-    ensures { option_map shape_cells result ≡ least_if_connected (directions lattice.now) (motions lattice.now) (set_motions set.now) (shape_cells shape.now) }
+    ensures { option_map shape_cells result ≡ least_if_connected (L.directions lattice.now) (L.motions lattice.now) (set_motions set.now) (shape_cells shape.now) }
 {
     if !is_connected(lattice, shape) {
         return None;

@@ -18,7 +18,7 @@ use ordered::compare::compare;
 
 // Whether a motion of the lattice leaves the shape as it is.
 fn keeps<L: Lattice>(lattice: &L, motion: u8, shape: &Shape) -> bool
-    ensures { result ≡ (nat_lt motion (length (motions lattice.now)) && same_cells (moved (motions lattice.now) motion (shape_cells shape.now)) (shape_cells shape.now)) }
+    ensures { result ≡ (nat_lt motion (length (L.motions lattice.now)) && same_cells (moved (L.motions lattice.now) motion (shape_cells shape.now)) (shape_cells shape.now)) }
 {
     motion < lattice.motion_count()
         && compare(member(lattice, motion, shape).cells(), shape.cells()).is_eq()
@@ -26,8 +26,8 @@ fn keeps<L: Lattice>(lattice: &L, motion: u8, shape: &Shape) -> bool
 
 // The motions of a set, of those that the lattice has, that leave the shape as it is.
 pub fn stabiliser<L: Lattice>(lattice: &L, set: &MotionSet, shape: &Shape) -> MotionSet
-    ensures value { set_motions result ≡ stabiliser_of (motions lattice.now) (usable (motions lattice.now) (set_motions set.now)) (shape_cells shape.now) }
-    ensures closed { Closed (motions lattice.now) (set_motions set.now) → set_motions result ≡ stabiliser_of (motions lattice.now) (set_motions set.now) (shape_cells shape.now) }
+    ensures value { set_motions result ≡ stabiliser_of (L.motions lattice.now) (usable (L.motions lattice.now) (set_motions set.now)) (shape_cells shape.now) }
+    ensures closed { Closed (L.motions lattice.now) (set_motions set.now) → set_motions result ≡ stabiliser_of (L.motions lattice.now) (set_motions set.now) (shape_cells shape.now) }
 {
     let mut found = MotionSet::identity();
     for motion in set.as_slice() {
@@ -96,8 +96,8 @@ impl Orbit {
 // The different members of a shape under the motions of a set that the lattice has, by ascending motion:
 // each once, with the lowest motion that makes it.
 pub fn orbit<L: Lattice>(lattice: &L, set: &MotionSet, shape: &Shape) -> Orbit
-    ensures value { map oriented (orbit_list result) ≡ oriented_members (motions lattice.now) (usable (motions lattice.now) (set_motions set.now)) (shape_cells shape.now) }
-    ensures closed { Closed (motions lattice.now) (set_motions set.now) → map oriented (orbit_list result) ≡ oriented_members (motions lattice.now) (set_motions set.now) (shape_cells shape.now) }
+    ensures value { map oriented (orbit_list result) ≡ oriented_members (L.motions lattice.now) (usable (L.motions lattice.now) (set_motions set.now)) (shape_cells shape.now) }
+    ensures closed { Closed (L.motions lattice.now) (set_motions set.now) → map oriented (orbit_list result) ≡ oriented_members (L.motions lattice.now) (set_motions set.now) (shape_cells shape.now) }
 {
     let mut orbit = Orbit::empty();
     for motion in set.as_slice() {
@@ -114,10 +114,10 @@ pub fn orbit<L: Lattice>(lattice: &L, set: &MotionSet, shape: &Shape) -> Orbit
 
 // How many different members a shape has under the motions of a set that the lattice has.
 pub fn orbit_size<L: Lattice>(lattice: &L, set: &MotionSet, shape: &Shape) -> u8
-    ensures value { result ≡ orbit_size_of (motions lattice.now) (usable (motions lattice.now) (set_motions set.now)) (shape_cells shape.now) }
+    ensures value { result ≡ orbit_size_of (L.motions lattice.now) (usable (L.motions lattice.now) (set_motions set.now)) (shape_cells shape.now) }
     ensures some { 1 ≤ result }
     ensures few { result ≤ 48 }
-    ensures closed { Closed (motions lattice.now) (set_motions set.now) → result ≡ orbit_size_of (motions lattice.now) (set_motions set.now) (shape_cells shape.now) }
+    ensures closed { Closed (L.motions lattice.now) (set_motions set.now) → result ≡ orbit_size_of (L.motions lattice.now) (set_motions set.now) (shape_cells shape.now) }
 {
     orbit(lattice, set, shape).len() as u8
 }

@@ -8,7 +8,7 @@ use lattice::lattice::Lattice;
 
 impl DirectionList {
     pub(crate) fn of<L: Lattice>(lattice: &L) -> DirectionList
-        ensures { directions_in result ≡ directions lattice.now }
+        ensures { directions_in result ≡ L.directions lattice.now }
     {
         let mut cells = [Cell::ORIGIN; 26];
         let count = lattice.direction_count();

@@ -18,8 +18,8 @@ use shapes::making::MOST_CELLS;
 impl Search {
     // A search that has all pick lists of a size still to list.
     pub fn begin<L: Lattice>(lattice: &L, size: usize) -> Result<Search, Refusal>
-        ensures value { answer left result ≡ begun (directions lattice.now) size }
-        ensures fresh { FreshIfMade (directions lattice.now) size result }
+        ensures value { answer left result ≡ begun (L.directions lattice.now) size }
+        ensures fresh { FreshIfMade (L.directions lattice.now) size result }
     {
         if size == 0 || size > MOST_CELLS {
             return Err(Refusal::Size);

@@ -48,8 +48,8 @@ fn walk(directions: &DirectionList, wanted: &[Cell]) -> PickList
 
 // The pick list of a shape, which it has exactly if it is connected.
 pub fn pick_list<L: Lattice>(lattice: &L, shape: &Shape) -> Option<PickList>
-    ensures value { picked result ≡ the_picks (cells_around (directions lattice.now)) (shape_cells shape.now) }
-    ensures connected { (is_some result ≡ true) ↔ Connected (neighbours (directions lattice.now)) origin (shape_cells shape.now) }
+    ensures value { picked result ≡ the_picks (cells_around (L.directions lattice.now)) (shape_cells shape.now) }
+    ensures connected { (is_some result ≡ true) ↔ Connected (neighbours (L.directions lattice.now)) origin (shape_cells shape.now) }
 {
     let list = walk(&DirectionList::of(lattice), shape.cells());
     if list.count == shape.size() {

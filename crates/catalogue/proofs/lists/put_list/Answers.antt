@@ -1,7 +1,7 @@
 use Rattle.catalogue.proofs.lists.put_list.Goals as goal
 
-pub put-behind-end-requires : goal.put-behind-end-requires
-put-behind-end-requires g c = ?
+pub put_behind-end-requires : goal.put_behind-end-requires
+put_behind-end-requires g c = ?
 
 pub loop-item-init : goal.loop-item-init
 loop-item-init g c = ?

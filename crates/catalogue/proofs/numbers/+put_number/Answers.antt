@@ -6,14 +6,14 @@ use Rattle.catalogue.proofs.numbers.+put_number.Goals as goal
 pub bounds-rest-0 : goal.bounds-rest-0
 bounds-rest-0 t c = search (rules, decimal_nonempty)
 
-pub put-number-at-requires : goal.put-number-at-requires
-put-number-at-requires t c = search (rules, decimal_step, length-append)
+pub put_number-at-requires : goal.put_number-at-requires
+put_number-at-requires t c = search (rules, decimal_step, length-append)
 
 pub bounds-rest-at : goal.bounds-rest-at
 bounds-rest-at t c = search (rules, decimal_step, length-append)
 
-pub overflow-add-result : goal.overflow-add-result
-overflow-add-result t c = search (rules, length-decimal-le 20)
+pub overflow_add-result : goal.overflow_add-result
+overflow_add-result t c = search (rules, length-decimal-le 20)
 
 pub returns-then-n-lt10 : goal.returns-then-n-lt10
 returns-then-n-lt10 t c =
@@ -28,5 +28,5 @@ returns-else-n-lt10 t c =
     let room : length (decimal (c.args.n / 10)) < length c.args.rest.now = search (rules, decimal_step, length-append) in
     record {
       value = search (rules, decimal_step, length-append);
-      after = rw (e, c.put-number-at.ensures.value) (over_byte _ c.args.rest.now _ _ _ c.put-number-at.ensures.after refl room);
+      after = rw (e, c.put_number-at.ensures.value) (over_byte _ c.args.rest.now _ _ _ c.put_number-at.ensures.after refl room);
     }

@@ -9,5 +9,5 @@ returns-then-z-lt0 c =
     let room : 0 < length c.args.rest.now = search rules in
     record {
       value = search rules;
-      after = rw e (over_part (45 ∷ []) (decimal c.from-size.result) c.args.rest.now _ _ 1 _ (over_byte [] _ _ 0 45 refl refl room) refl room refl c.put-number.ensures.after);
+      after = rw e (over_part (45 ∷ []) (decimal c.from-size.result) c.args.rest.now _ _ 1 _ (over_byte [] _ _ 0 45 refl refl room) refl room refl c.put_number.ensures.after);
     }

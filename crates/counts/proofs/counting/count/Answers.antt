@@ -3,7 +3,7 @@ use Rattle.counts.proofs.counting.count.Goals as goal
 
 pub returns : goal.returns
 returns g c =
-    let end = c.in-default.ensures.step in
+    let end = c.in_default.ensures.step in
     let none = ap length end.none in
     record {
       value = (omega (arith, c.loop-counted.invariant, none), omega (arith, c.loop-counted.invariant.0, none));

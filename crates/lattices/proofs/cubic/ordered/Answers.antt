@@ -44,8 +44,8 @@ returns-in-4 c =
       near = grind (arith, ints);
     }
 
-pub returns-in-default : goal.returns-in-default
-returns-in-default c =
+pub returns-in_default : goal.returns-in_default
+returns-in_default c =
     let near = within_says 15 c.args.x c.requires.near in
     record {
       value = in_order c.args.order 5 (omega arith) c.args.x _ (omega (arith, ints)) (omega (arith, ints)) (omega (arith, ints));

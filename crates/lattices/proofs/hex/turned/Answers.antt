@@ -29,7 +29,7 @@ returns-in-4 c =
     let near = within_says 15 c.args.x c.requires.near in
     hex_turned c.args.times 4 c.in-4.is c.args.x _ (omega (arith, ints)) (omega (arith, ints)) (omega (arith, ints))
 
-pub returns-in-default : goal.returns-in-default
-returns-in-default c =
+pub returns-in_default : goal.returns-in_default
+returns-in_default c =
     let near = within_says 15 c.args.x c.requires.near in
     hex_turned c.args.times 5 (omega arith) c.args.x _ (omega (arith, ints)) (omega (arith, ints)) (omega (arith, ints))

@@ -19,7 +19,7 @@ returns-in-2 c =
     let near = within_says 15 c.args.x c.requires.near in
     square_turned c.args.times 2 c.in-2.is c.args.x _ (omega (arith, ints)) (omega (arith, ints)) (omega (arith, ints))
 
-pub returns-in-default : goal.returns-in-default
-returns-in-default c =
+pub returns-in_default : goal.returns-in_default
+returns-in_default c =
     let near = within_says 15 c.args.x c.requires.near in
     square_turned c.args.times 3 (omega arith) c.args.x _ (omega (arith, ints)) (omega (arith, ints)) (omega (arith, ints))

@@ -26,14 +26,14 @@ loop-call-preserved g c =
     let i = c.loop-call.invariant in
     let old = vec_items c.loop-call.answers in
     let s = g.T.Source.stands c.loop-call.lister in
-    let t = g.T.Source.stands c.one-call.new.lister in
-    let r = c.one-call.result in
+    let t = g.T.Source.stands c.one_call.new.lister in
+    let r = c.one_call.result in
     let lt : c.loop-call.call-index < length cs = omega arith in
-    let grown : vec_items c.push.new.self ≡ old ++ r ∷ [] = c.in-ok-push.ensures.items in (
+    let grown : vec_items c.push.new.self ≡ old ++ r ∷ [] = c.in_ok-push.ensures.items in (
       omega (arith, ap length grown, length-append old (r ∷ []), i.0),
       λ o h e k n.
           let (still, f, b) = i.1 o h e k n in
-          let x = c.one-call.ensures o still in
+          let x = c.one_call.ensures o still in
           let more = call_more o k (listing o) (listing_lists o n k) cs old s t f b c.loop-call.call-index i.0 lt c.call-item.result (get_or_default cs c.loop-call.call-index Next c.call-item.result lt ∙ sym c.call-item.is) r x.0 in
           (x.1, subst (λ (as' : List Answer). SoFar (Right o (listing o)) (listing o) cs as' (ahead t)) (sym grown) more.0, more.1 ∙ sym (ap handed grown)),
     )

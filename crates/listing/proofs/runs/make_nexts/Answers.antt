@@ -21,11 +21,11 @@ loop-k-preserved g c =
     let k = c.loop-k.-k in
     let old = vec_items c.loop-k.replies in
     let s = g.S.Source.stands c.loop-k.source in
-    let t = g.S.Source.stands c.one-next.new.source in
-    let r = c.one-next.result in
+    let t = g.S.Source.stands c.one_next.new.source in
+    let r = c.one_next.result in
     let i = c.loop-k.invariant in
-    let grown : vec_items c.push.new.self ≡ old ++ r ∷ [] = c.in-ok-push.ensures.items in
+    let grown : vec_items c.push.new.self ≡ old ++ r ∷ [] = c.in_ok-push.ensures.items in
     let h : length old < length cs = omega (arith, i.0, length-replicate c.args.nexts Next) in
-    let step = c.one-next.ensures.step in
+    let step = c.one_next.ensures.step in
     let now = so_far_more (λ past _ a. NextRight list past a) list cs old (ahead s) i.1 r (ahead t) (replied_ahead s t r step) (get_or cs (length old) Next) (drop (length old + 1) cs) (drop_more cs (length old) Next h) (next_right s t list (handed old) i.1.left r step) in
     (omega (arith, ap length grown, length-append old (r ∷ []), i.0), subst (λ (xs : List Answer). SoFar (λ past _ a. NextRight list past a) list cs xs (ahead t)) (sym grown) now)

@@ -5,5 +5,5 @@ use Rattle.listing.proofs.runs.one_call.Goals as goal
 pub returns-in-Next : goal.returns-in-Next
 returns-in-Next g c o h =
     let s = c.args.lister.now in
-    let t = c.one-next.new.source in
-    (subst (λ q. Answered o (g.T.Source.stands s) q c.one-next.result (g.T.Source.stands t)) (sym c.in-Next.is) c.one-next.ensures.step, g.met.T.Listing.steady s t c.one-next.ensures.others o h)
+    let t = c.one_next.new.source in
+    (subst (λ q. Answered o (g.T.Source.stands s) q c.one_next.result (g.T.Source.stands t)) (sym c.in-Next.is) c.one_next.ensures.step, g.met.T.Listing.steady s t c.one_next.ensures.others o h)

@@ -48,21 +48,21 @@ module _ {X : Type 0} (less : X → X → Bool) where
 
 pub loop-x-init : goal.loop-x-init
 loop-x-init g c =
-    let s = c.into-iter-x-iterator.ensures.into-iter-gives in
+    let s = c.into_iter-x-iterator.ensures.into_iter_gives in
     starts g.T.TotalOrder.less c.args.xs.now c.args.ys.now _ _
     (ap (λ z. iter_rest (zip_first z)) s ∙ ap iter_rest c.zip-x-items.ensures.first ∙ c.iter.ensures.rest)
     (ap (λ z. iter_rest (zip_second z)) s ∙ c.zip-x-items.ensures.second.0)
 
 pub loop-x-preserved : goal.loop-x-preserved
 loop-x-preserved g c =
-    let t = Zip-more _ _ _ _ c.in-Some.is c.next.ensures.steps in
+    let t = Zip-more _ _ c.t14.result _ c.in-Some.is c.next.ensures.steps in
     goes_on g.T.TotalOrder.less c.args.xs.now c.args.ys.now _ _ _ _ _ _ c.loop-x.invariant t.0 t.1 c.in-Equal.ensures
 
-pub returns-in-default : goal.returns-in-default
-returns-in-default g c =
-    let t = Zip-more _ _ _ _ c.in-Some.is c.next.ensures.steps in
+pub returns-in_default : goal.returns-in_default
+returns-in_default g c =
+    let t = Zip-more _ _ c.t14.result _ c.in-Some.is c.next.ensures.steps in
     record {
-      value = decided g.T.TotalOrder.less c.args.xs.now c.args.ys.now _ _ _ _ _ _ _ c.loop-x.invariant t.0 t.1 c.order.ensures c.in-default.not-Equal;
+      value = decided g.T.TotalOrder.less c.args.xs.now c.args.ys.now _ _ _ _ _ _ _ c.loop-x.invariant t.0 t.1 c.order.ensures c.in_default.not-Equal;
       total = list_order g.T.TotalOrder.less g.met.T.TotalOrder.total;
     }
 

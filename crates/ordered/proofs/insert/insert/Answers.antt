@@ -75,23 +75,23 @@ returns-then-used-slots g c = record {
   ascends = inserted_ascending g.T.TotalOrder.less g.met.T.TotalOrder.total c.args.item (take c.args.count c.args.slots.now);
 }
 
-pub offset-bounds-slots-at : goal.offset-bounds-slots-at
-offset-bounds-slots-at g c =
+pub offset_bounds-slots-at : goal.offset_bounds-slots-at
+offset_bounds-slots-at g c =
     let h = place g.T.TotalOrder.less c.args.item c.args.slots.now c.args.count c.min-used.result (omega arith) c.in-Absent.at c.in-Absent.ensures in
     search rules
 
-pub slice-bounds-rotate-right-count : goal.slice-bounds-rotate-right-count
-slice-bounds-rotate-right-count g c =
+pub slice_bounds-rotate_right-count : goal.slice_bounds-rotate_right-count
+slice_bounds-rotate_right-count g c =
     let h = place g.T.TotalOrder.less c.args.item c.args.slots.now c.args.count c.min-used.result (omega arith) c.in-Absent.at c.in-Absent.ensures in
     omega arith
 
-pub slice-bounds-rotate-right-start : goal.slice-bounds-rotate-right-start
-slice-bounds-rotate-right-start g c =
+pub slice_bounds-rotate_right-start : goal.slice_bounds-rotate_right-start
+slice_bounds-rotate_right-start g c =
     let h = place g.T.TotalOrder.less c.args.item c.args.slots.now c.args.count c.min-used.result (omega arith) c.in-Absent.at c.in-Absent.ensures in
     search rules
 
-pub rotate-right-requires : goal.rotate-right-requires
-rotate-right-requires g c =
+pub rotate_right-requires : goal.rotate_right-requires
+rotate_right-requires g c =
     let h = place g.T.TotalOrder.less c.args.item c.args.slots.now c.args.count c.min-used.result (omega arith) c.in-Absent.at c.in-Absent.ensures in
     search rules
 
@@ -105,6 +105,6 @@ returns-in-Found g c = record {
 pub returns-else-used-slots : goal.returns-else-used-slots
 returns-else-used-slots g c = record {
   answer = placed g.T.TotalOrder.less c.args.item c.args.slots.now c.args.count c.min-used.result (omega arith) c.in-Absent.at c.in-Absent.ensures c.if-used-slots.false;
-  after = moved g.T.TotalOrder.less c.args.item c.args.slots.now c.args.count c.min-used.result (omega arith) c.in-Absent.at c.in-Absent.ensures c.rotate-right.new.self c.if-used-slots.false c.rotate-right.ensures.after;
+  after = moved g.T.TotalOrder.less c.args.item c.args.slots.now c.args.count c.min-used.result (omega arith) c.in-Absent.at c.in-Absent.ensures c.rotate_right.new.self c.if-used-slots.false c.rotate_right.ensures.after;
   ascends = inserted_ascending g.T.TotalOrder.less g.met.T.TotalOrder.total c.args.item (take c.args.count c.args.slots.now);
 }

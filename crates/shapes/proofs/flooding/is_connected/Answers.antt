@@ -9,5 +9,5 @@ pub returns : goal.returns
 returns g c =
     let s = shape_cells c.args.shape.now in
     let ds = g.L.Lattice.directions c.args.lattice.now in
-    let e = c.are-all-marked.ensures ∙ ap (λ xs. eqb (length xs) (length s)) c.flood.ensures in
-    record { value = e; exact = Decides-at c.are-all-marked.result (connected ds s) e (connected_decides ds s) }
+    let e = c.are_all_marked.ensures ∙ ap (λ xs. eqb (length xs) (length s)) c.flood.ensures in
+    record { value = e; exact = Decides-at c.are_all_marked.result (connected ds s) e (connected_decides ds s) }

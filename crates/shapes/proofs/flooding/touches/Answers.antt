@@ -10,24 +10,24 @@ use Rattle.shapes.specs.Shapes.{shape_cells}
 use Rattle.shapes.proofs.Marks.{some_marked_at}
 use Rattle.shapes.proofs.ShapeFacts.{shape_within, shape_few}
 use Rattle.shapes.proofs.flooding.touches.Goals as goal
-use Rattle.shapes.proofs.flooding.touches.Goals.{else-marks-i-via-then-marks-i+else-is-at, else-marks-i-via-else-marks-i}
+use Rattle.shapes.proofs.flooding.touches.Goals.{else-marks-i-via-then-marks-i+else-is_at, else-marks-i-via-else-marks-i}
 
-pub is-at-requires : goal.is-at-requires
-is-at-requires g c =
+pub is_at-requires : goal.is_at-requires
+is_at-requires g c =
     let s = shape_cells c.args.shape.now in
     let i : c.loop-i.i < length s = omega (arith, ap length c.cells-x-items.ensures) in
     subst (λ (xs : List Cell). Within 15 (get_or xs c.loop-i.i origin)) (sym c.cells-x-items.ensures) (All-get_or (Within 15) s c.loop-i.i origin i (shape_within c.args.shape.now))
 
-pub returns-then-is-at : goal.returns-then-is-at
-returns-then-is-at g c =
+pub returns-then-is_at : goal.returns-then-is_at
+returns-then-is_at g c =
     let s = shape_cells c.args.shape.now in
     let bs = c.args.marks.now in
     let k = c.loop-i.i in
     let i : k < length s = omega (arith, ap length c.cells-x-items.ensures) in
     let j : k < length bs = omega (arith, shape_few c.args.shape.now) in
     let p : Cell → Bool = λ x. same_cell x c.args.y || some_pass (same_cell c.args.y) (neighbours (g.L.Lattice.directions c.args.lattice.now) x) in
-    let test : c.is-at.result ≡ p (get_or s k origin) = c.is-at.ensures ∙ ap (λ xs. p (get_or xs k origin)) c.cells-x-items.ensures in
-    sym (sym c.loop-i.invariant ∙ some_marked_at s bs p k origin i j ∙ or_left (get_or bs k false && p (get_or s k origin)) (some_pass p (marked (drop (k + 1) s) (drop (k + 1) bs))) (and_from (get_or bs k false) (p (get_or s k origin)) c.if-marks-i.true (sym test ∙ c.if-is-at.true)))
+    let test : c.is_at.result ≡ p (get_or s k origin) = c.is_at.ensures ∙ ap (λ xs. p (get_or xs k origin)) c.cells-x-items.ensures in
+    sym (sym c.loop-i.invariant ∙ some_marked_at s bs p k origin i j ∙ or_left (get_or bs k false && p (get_or s k origin)) (some_pass p (marked (drop (k + 1) s) (drop (k + 1) bs))) (and_from (get_or bs k false) (p (get_or s k origin)) c.if-marks-i.true (sym test ∙ c.if-is_at.true)))
 
 pub loop-i-preserved : goal.loop-i-preserved
 loop-i-preserved g c =
@@ -39,7 +39,7 @@ loop-i-preserved g c =
     let p : Cell → Bool = λ x. same_cell x c.args.y || some_pass (same_cell c.args.y) (neighbours (g.L.Lattice.directions c.args.lattice.now) x) in
     let fails : (get_or bs k false && p (get_or s k origin)) ≡ false =
     elim c.else-marks-i.branch [
-      | else-marks-i-via-then-marks-i+else-is-at w ↦ and_right (get_or bs k false) (p (get_or s k origin)) (sym (w.is-at.ensures ∙ ap (λ xs. p (get_or xs k origin)) c.cells-x-items.ensures) ∙ w.if-is-at.false)
+      | else-marks-i-via-then-marks-i+else-is_at w ↦ and_right (get_or bs k false) (p (get_or s k origin)) (sym (w.is_at.ensures ∙ ap (λ xs. p (get_or xs k origin)) c.cells-x-items.ensures) ∙ w.if-is_at.false)
       | else-marks-i-via-else-marks-i w ↦ and_left (get_or bs k false) (p (get_or s k origin)) w.if-marks-i.false
     ] in
     sym (some_marked_at s bs p k origin i j ∙ ap (λ b. b || some_pass p (marked (drop (k + 1) s) (drop (k + 1) bs))) fails) ∙ c.loop-i.invariant

@@ -54,8 +54,8 @@ difference-requires c =
       y-near = near p 0 c.requires (omega arith);
     }
 
-pub invariant-of-placement : goal.invariant-of-placement
-invariant-of-placement c =
+pub invariant_of-placement : goal.invariant_of-placement
+invariant_of-placement c =
     let p = c.args.placement.now in
     let f : Cell → Cell = λ y. minus y (get_or p.cells 0 origin) in
     (p.few, (as_long f p.cells c.loop-i.cells c.loop-i.i (omega (arith, p.few, p.space, c.loop-i.auto.i-end)) c.loop-i.invariant ∙ p.space, tt))

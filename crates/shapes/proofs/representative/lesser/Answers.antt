@@ -19,7 +19,7 @@ returns-in-Ok g c =
     let all = c.in-Ok.ensures ∙ ap shape_or_fault (c.cells-3.ensures ∙ member) ∙ ap (unless t) none in
     let same : shape_cells c.in-Ok.found ≡ t = cc in
     let less : cells_less t (shape_cells c.args.least) ≡ true =
-    sym (c.if-not-is-lt.ensures ∙ ap is_lt c.compare.ensures.value ∙ ap (λ xs. cells_less xs c.cells-2.result.now) (c.cells.ensures ∙ member) ∙ ap (cells_less t) c.cells-2.ensures) in
+    sym (c.if-not-is_lt.ensures ∙ ap is_lt c.compare.ensures.value ∙ ap (λ xs. cells_less xs c.cells-2.result.now) (c.cells.ensures ∙ member) ∙ ap (cells_less t) c.cells-2.ensures) in
     same ∙ sym (cond-true (cells_less t (shape_cells c.args.least)) t (shape_cells c.args.least) less)
 
 pub returns-in-Err : goal.returns-in-Err

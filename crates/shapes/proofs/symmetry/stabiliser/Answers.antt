@@ -19,8 +19,8 @@ loop-motion-preserved g c =
     let s = shape_cells c.args.shape.now in
     let gs = set_motions c.args.set.now in
     let i = c.loop-motion.motion-index in
-    let h : i < length gs = omega (arith, ap length c.as-slice-motion-items.ensures) in
-    let item : get_or c.as-slice-motion-items.result.now i 0 ≡ get_or gs i 0 = ap (λ (l : List ℕ). get_or l i 0) c.as-slice-motion-items.ensures in
+    let h : i < length gs = omega (arith, ap length c.as_slice-motion-items.ensures) in
+    let item : get_or c.as_slice-motion-items.result.now i 0 ≡ get_or gs i 0 = ap (λ (l : List ℕ). get_or l i 0) c.as_slice-motion-items.ensures in
     elim c.if-keeps.branch [
       | then_Keeps w ↦
           let yes : stays ms s (get_or gs i 0) ≡ true = ap (stays ms s) (sym item) ∙ sym w.if-keeps.ensures in
@@ -38,6 +38,6 @@ returns g c =
     let s = shape_cells c.args.shape.now in
     let set = c.args.set.now in
     let i = c.loop-motion.motion-index in
-    let all : take i (set_motions set) ≡ set_motions set = take_all i (set_motions set) (omega (arith, ap length c.as-slice-motion-items.ensures, c.loop-motion-test.false)) in
+    let all : take i (set_motions set) ≡ set_motions set = take_all i (set_motions set) (omega (arith, ap length c.as_slice-motion-items.ensures, c.loop-motion-test.false)) in
     let e : set_motions c.loop-motion.found ≡ stabiliser_of ms (usable ms (set_motions set)) s = c.loop-motion.invariant ∙ ap (λ (gs : List ℕ). sorted ltb (0 ∷ filter (stays ms s) gs)) all ∙ stabiliser_is (g.L.Lattice.rules l) set s (shape_position c.args.shape.now) in
     record { value = e; closed = λ C. e ∙ ap (λ (gs : List ℕ). stabiliser_of ms gs s) (closed_usable ms (set_motions set) C) }

@@ -8,7 +8,7 @@ use Rattle.walk.specs.Places.{spread}
 use Rattle.walk.proofs.Around.{place_within, within_all_pass}
 use Rattle.walk.proofs.WalkTurns.{midway_first, midway_picks, midway_passes, midway_same, midway_ends}
 use Rattle.walk.proofs.walking.walk.Goals as goal
-use Rattle.walk.proofs.walking.walk.Goals.{then-is-on, else-is-on, then-loop-count-test+else-place-len, else-loop-count-test}
+use Rattle.walk.proofs.walking.walk.Goals.{then-is_on, else-is_on, then-loop-count-test+else-place-len, else-loop-count-test}
 
 pub loop-count-init : goal.loop-count-init
 loop-count-init c = midway_first (directions_in c.args.directions.now) c.args.wanted.now _ _ refl c.new-places.ensures
@@ -33,16 +33,16 @@ loop-count-preserved c =
     let i = c.loop-count.place in
     let now = c.loop-count.invariant in
     let here : i < length P = omega arith in
-    elim c.if-is-on.branch [
-      | then-is-on w ↦
+    elim c.if-is_on.branch [
+      | then-is_on w ↦
           midway_picks ds S P picks n i now _ _ _ (omega (arith, length-take d.count d.cells)) (within_all_pass 1 ds d.short) c.requires here (omega arith)
-          (ap (on (cells_around ds) S) (sym c.get-x.ensures) ∙ sym (w.if-is-on.ensures ds))
+          (ap (on (cells_around ds) S) (sym c.get-x.ensures) ∙ sym (w.if-is_on.ensures ds))
           (ap place_cells w.places-is ∙ w.spread.ensures ∙ ap (spread (cells_around ds) P) c.get-x.ensures)
           w.picks-is
           w.count-is
-      | else-is-on w ↦
+      | else-is_on w ↦
           midway_same ds S P _ picks _ n _ _ (ap place_cells w.places-is) w.picks-is w.count-is
-          (midway_passes ds S P picks n i now here (ap (on (cells_around ds) S) (sym c.get-x.ensures) ∙ sym (w.if-is-on.ensures ds)))
+          (midway_passes ds S P picks n i now here (ap (on (cells_around ds) S) (sym c.get-x.ensures) ∙ sym (w.if-is_on.ensures ds)))
     ]
 
 pub returns : goal.returns

@@ -11,6 +11,6 @@ returns c =
     let b : to_z w8 (of_z w8 x.b) ≡ x.b = search (rules, to_z-of_z) in
     let d : to_z w8 (of_z w8 x.c) ≡ x.c = search (rules, to_z-of_z) in
     record {
-      value = omega (arith, length_cell x, c.signed-length.ensures.value, c.signed-length-2.ensures.value, c.signed-length-3.ensures.value, ap (λ z. length (signed_decimal z)) a, ap (λ z. length (signed_decimal z)) b, ap (λ z. length (signed_decimal z)) d);
-      few = omega (arith, c.signed-length.ensures.few, c.signed-length-2.ensures.few, c.signed-length-3.ensures.few);
+      value = omega (arith, length_cell x, c.signed_length.ensures.value, c.signed_length-2.ensures.value, c.signed_length-3.ensures.value, ap (λ z. length (signed_decimal z)) a, ap (λ z. length (signed_decimal z)) b, ap (λ z. length (signed_decimal z)) d);
+      few = omega (arith, c.signed_length.ensures.few, c.signed_length-2.ensures.few, c.signed_length-3.ensures.few);
     }

@@ -7,8 +7,8 @@ use Rattle.lattice.specs.Kinds.{set_motions}
 use Rattle.lattice.proofs.Rising.{ascending_from_climbs, room_for, added_list, added_climbs, added_small, added_zero, added_blank}
 use Rattle.lattice.proofs.motion_set.MotionSet.insert.Goals as goal
 
-pub invariant-of-self : goal.invariant-of-self
-invariant-of-self c =
+pub invariant_of-self : goal.invariant_of-self
+invariant_of-self c =
     let s = c.args.self.now in
     let m = c.args.motion in
     let told = c.in-Placed.ensures in

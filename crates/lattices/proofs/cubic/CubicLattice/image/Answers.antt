@@ -12,4 +12,4 @@ pub returns : goal.returns
 returns c =
     c.negated.ensures
     ∙ ap (image (signs _)) c.ordered.ensures.value
-    ∙ sym (image_in c.args.motion c.args.cell (omega arith) (sym c.if-not-is-in-reach.ensures))
+    ∙ sym (image_in c.args.motion c.args.cell (omega arith) (sym c.if-not-is_in_reach.ensures))

@@ -13,11 +13,11 @@ pub returns-then-motion-lt-CIRCLE : goal.returns-then-motion-lt-CIRCLE
 unfolding hex_motions
 returns-then-motion-lt-CIRCLE c =
     c.turned.ensures
-    ∙ sym (image_turn hex_turn 6 c.args.motion c.args.cell c.if-motion-lt-CIRCLE.true (sym c.if-not-is-in-reach.ensures))
+    ∙ sym (image_turn hex_turn 6 c.args.motion c.args.cell c.if-motion-lt-CIRCLE.true (sym c.if-not-is_in_reach.ensures))
 
 pub returns-else-motion-lt-CIRCLE : goal.returns-else-motion-lt-CIRCLE
 unfolding hex_motions
 returns-else-motion-lt-CIRCLE c =
     c.turned-else-motion-lt-CIRCLE.ensures
     ∙ ap (image (turns hex_turn _)) c.swapped.ensures.value
-    ∙ sym (image_swap hex_turn 6 c.args.motion c.args.cell (omega arith) (omega arith) (sym c.if-not-is-in-reach.ensures))
+    ∙ sym (image_swap hex_turn 6 c.args.motion c.args.cell (omega arith) (omega arith) (sym c.if-not-is_in_reach.ensures))

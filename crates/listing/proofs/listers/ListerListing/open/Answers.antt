@@ -14,10 +14,10 @@ pub returns : goal.returns
 returns g c =
     let l = c.args.lattice in
     let L = g.L.Lattice in
-    let search = c.in-ok-search.search in
-    let set = c.in-ok-set.set in
-    let s : Lister g.row.L.Denot = record { lattice = l; set = set; search = search; last = c.pick-list-last.result } in
+    let search = c.in_ok-search.search in
+    let set = c.in_ok-set.set in
+    let s : Lister g.row.L.Denot = record { lattice = l; set = set; search = search; last = c.pick_list-last.result } in
     let r : Result (Lister g.row.L.Denot) Refusal = Ok s in
     let P : Lister g.row.L.Denot → Opening → Type 0 = λ t o. OpenedBy L.directions L.motions t o × (stands_of L.motions t ≡ standing [] (listing o)) in
-    let made = opening_made (L.directions l) (L.motions l) (L.onesided l) c.args.size c.args.kind (left search) (set_motions set) c.in-ok-search.ensures.value c.in-ok-set.ensures.value in
-    subst (λ x. Opened x r P) (sym made) (opened_fresh L.motions L.directions s c.args.size (set_motions set) c.in-ok-search.ensures.fresh refl (c.in-ok-set.ensures.closed set refl) c.pick-list-last.ensures)
+    let made = opening_made (L.directions l) (L.motions l) (L.onesided l) c.args.size c.args.kind (left search) (set_motions set) c.in_ok-search.ensures.value c.in_ok-set.ensures.value in
+    subst (λ x. Opened x r P) (sym made) (opened_fresh L.motions L.directions s c.args.size (set_motions set) c.in_ok-search.ensures.fresh refl (c.in_ok-set.ensures.closed set refl) c.pick_list-last.ensures)

@@ -12,7 +12,7 @@ returns-then-passes g c =
     let x = entry_values c.next.new.out in
     let pass : P s.condition x ≡ true = ap (λ d. P d x) (sym i.0) ∙ sym c.if-passes.ensures in
     record {
-      step = subst (λ d. Gave (sieved (P s.condition) (g.S.Source.stands s.source)) (sieved (P d) (g.S.Source.stands c.next.new.self)) x) (sym i.0) (sieve_gave (P s.condition) i.2 c.in-ok-next.ensures.step pass);
+      step = subst (λ d. Gave (sieved (P s.condition) (g.S.Source.stands s.source)) (sieved (P d) (g.S.Source.stands c.next.new.self)) x) (sym i.0) (sieve_gave (P s.condition) i.2 c.in_ok-next.ensures.step pass);
       others = tt;
     }
 
@@ -23,4 +23,4 @@ loop-found-preserved g c =
     let s = c.args.self.now in
     let x = entry_values c.next.new.out in
     let fail : P s.condition x ≡ false = ap (λ d. P d x) (sym i.0) ∙ sym c.if-passes.ensures in
-    (i.0, i.1, one_passed (P s.condition) i.2 c.in-ok-next.ensures.step fail)
+    (i.0, i.1, one_passed (P s.condition) i.2 c.in_ok-next.ensures.step fail)

@@ -24,8 +24,8 @@ loop-k-preserved g c =
 copied : (ds cells : List Cell) (n k : ℕ) → n ≡ k → take k cells ≡ take k ds → length ds ≤ k → take n cells ≡ ds
 copied ds cells n k e h l = ap (λ m. take m cells) e ∙ h ∙ take_all k ds l
 
-pub invariant-of-result : goal.invariant-of-result
-invariant-of-result g c =
+pub invariant_of-result : goal.invariant_of-result
+invariant_of-result g c =
     let ds = g.L.Lattice.directions c.args.lattice.now in
     let rules = g.L.Lattice.rules c.args.lattice.now in
     let few = rules.few_directions in

@@ -6,8 +6,8 @@ use Rattle.walk.proofs.search.Search.advance.Goals as goal
 pub seek-requires : goal.seek-requires
 seek-requires c = let s = c.args.self.now in sound_from (ways s.trail) s.trail s.sound
 
-pub invariant-of-self : goal.invariant-of-self
-invariant-of-self c =
+pub invariant_of-self : goal.invariant_of-self
+invariant_of-self c =
     let s = c.args.self.now in
     let u = c.seek.new.self in
     (∣ sought_sound s.trail u c.seek.result c.seek.ensures ∣₁, (sought_end s.trail u c.seek.result c.seek.ensures s.end, tt))

@@ -5,8 +5,8 @@ use Rattle.walk.specs.Trails.{ways}
 use Rattle.walk.proofs.Ends.{ends_itself, ends_same}
 use Rattle.walk.proofs.search.Search.begin.Goals as goal
 
-pub invariant-of-result : goal.invariant-of-result
-invariant-of-result g c =
+pub invariant_of-result : goal.invariant_of-result
+invariant_of-result g c =
     let t = c.new-trail.result in
     let k = c.new-trail.ensures in
     let all = all_picks (cells_around (ways t)) t.size in
