@@ -55,12 +55,12 @@ loop-x-init g c =
 
 pub loop-x-preserved : goal.loop-x-preserved
 loop-x-preserved g c =
-    let t = Zip-more _ _ c.t14.result _ c.in-Some.is c.next.ensures.steps in
+    let t = Zip-more c.loop-x.x-iterator c.next.new.self c.next.result _ c.in-Some.is c.next.ensures.steps in
     goes_on g.T.TotalOrder.less c.args.xs.now c.args.ys.now _ _ _ _ _ _ c.loop-x.invariant t.0 t.1 c.in-Equal.ensures
 
 pub returns-in_default : goal.returns-in_default
 returns-in_default g c =
-    let t = Zip-more _ _ c.t14.result _ c.in-Some.is c.next.ensures.steps in
+    let t = Zip-more c.loop-x.x-iterator c.next.new.self c.next.result _ c.in-Some.is c.next.ensures.steps in
     record {
       value = decided g.T.TotalOrder.less c.args.xs.now c.args.ys.now _ _ _ _ _ _ _ c.loop-x.invariant t.0 t.1 c.order.ensures c.in_default.not-Equal;
       total = list_order g.T.TotalOrder.less g.met.T.TotalOrder.total;
@@ -68,7 +68,7 @@ returns-in_default g c =
 
 pub returns : goal.returns
 returns g c =
-    let e = either_empty_from_Zip _ _ _ c.in-None.is c.next.ensures.steps in
+    let e = either_empty_from_Zip c.loop-x.x-iterator c.next.new.self c.next.result c.in-None.is c.next.ensures.steps in
     record {
       value = ended g.T.TotalOrder.less c.args.xs.now c.args.ys.now _ _ c.cmp.result c.loop-x.invariant e (search rules);
       total = list_order g.T.TotalOrder.less g.met.T.TotalOrder.total;
