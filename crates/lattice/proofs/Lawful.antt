@@ -1,7 +1,6 @@
 -- The rules of a lattice whose motions are given by number, from one test that is computed.
 use Rattle.std.proofs.Common.{◌≡◌, ℕ, zero, suc, ◌<◌, ◌≤◌, Bool, true, false, not, ◌&&◌, ◌||◌, eqb, ltb, leb, List, [], ◌∷◌, map, length, sym, refl, ap, ◌∙◌, inl, inr, ⊎_elim, zero-add}
 use Rattle.std.specs.List.{range_with_len, AllByRecursion as All, list_all}
-use Rattle.std.specs.Map.Invariant.{is-distinct}
 use Rattle.std.proofs.lemmas.List.FromFn.{length-map-range_with_len, get_or-map-range_with_len}
 use Rattle.std.proofs.lemmas.Bool.{and_parts, or_cases, eqb-true, ltb-true, lt-ltb, leb-true, true≢false, false≢true, not-true}
 use Rattle.std.proofs.lemmas.Bool.Decides.{Decides-below_and}
@@ -38,15 +37,19 @@ abbrev has : {X : Type 0} → (X → X → Bool) → X → List X → Bool
 has same x [] = false
 has same x (y ∷ ys) = same x y || has same x ys
 
+abbrev is_distinct : {X : Type 0} → (X → X → Bool) → List X → Bool
+is_distinct same [] = true
+is_distinct same (x ∷ xs) = list_all (λ y. not (same x y)) xs && is_distinct same xs
+
 module _ {X : Type 0} (same : X → X → Bool) (eq : Equality same) where
   has_in : (x : X) (xs : List X) → has same x xs ≡ true → In x xs
   has_in x [] e = absurd (false≢true e)
   has_in x (y ∷ ys) e = ⊎_elim (λ h. inl ((eq x y).0 h)) (λ h. inr (has_in x ys h)) (or_cases (same x y) (has same x ys) e)
 
-  differ : (xs : List X) → is-distinct same xs ≡ true → NoRepeats xs
+  differ : (xs : List X) → is_distinct same xs ≡ true → NoRepeats xs
   differ [] e = tt
   differ (x ∷ xs) e =
-      let t = and_parts (list_all (λ y. not (same x y)) xs) (is-distinct same xs) e in
+      let t = and_parts (list_all (λ y. not (same x y)) xs) (is_distinct same xs) e in
       ((λ h. true≢false (sym ((eq x x).1 refl) ∙ not-true (same x x) (passes (λ y. not (same x y)) xs t.0 x h))), differ xs t.1)
 
 -- ---- tests of cells, matrices and names
@@ -79,14 +82,14 @@ module _ (name : List ℕ) (ds : List Cell) (f : ℕ → Matrix) (n : ℕ) (os :
   lawful_direction d = within 1 d && (not (same_cell origin d) && has same_cell (opposite d) ds)
 
   lawful_directions : Bool
-  lawful_directions = leb 1 (length ds) && (leb (length ds) 26 && (is-distinct same_cell ds && list_all lawful_direction ds))
+  lawful_directions = leb 1 (length ds) && (leb (length ds) 26 && (is_distinct same_cell ds && list_all lawful_direction ds))
 
   -- what is tested of one motion
   lawful_motion : ℕ → Bool
   lawful_motion g = small (f g) && (list_all (λ d. has same_cell (image (f g) d) ds) ds && (ltb (undo g) n && eqb (table (undo g) g) 0))
 
   lawful_motions : Bool
-  lawful_motions = leb 1 n && (leb n 48 && (same_matrix (f 0) identity && (is-distinct same_matrix (map f (range_with_len 0 n)) && all_below n lawful_motion)))
+  lawful_motions = leb 1 n && (leb n 48 && (same_matrix (f 0) identity && (is_distinct same_matrix (map f (range_with_len 0 n)) && all_below n lawful_motion)))
 
   -- what is tested of two motions
   lawful_after : ℕ → ℕ → Bool
@@ -141,9 +144,9 @@ module _ (name : List ℕ) (ds : List Cell) (f : ℕ → Matrix) (n : ℕ) (os :
     directions_parts : (1 ≤ length ds) × (length ds ≤ 26) × NoRepeats ds × (list_all lawful_direction ds ≡ true)
     unfolding lawful_directions
     directions_parts =
-        let p = and_parts (leb 1 (length ds)) (leb (length ds) 26 && (is-distinct same_cell ds && list_all lawful_direction ds)) four.1 in
-        let q = and_parts (leb (length ds) 26) (is-distinct same_cell ds && list_all lawful_direction ds) p.1 in
-        let r = and_parts (is-distinct same_cell ds) (list_all lawful_direction ds) q.1 in
+        let p = and_parts (leb 1 (length ds)) (leb (length ds) 26 && (is_distinct same_cell ds && list_all lawful_direction ds)) four.1 in
+        let q = and_parts (leb (length ds) 26) (is_distinct same_cell ds && list_all lawful_direction ds) p.1 in
+        let r = and_parts (is_distinct same_cell ds) (list_all lawful_direction ds) q.1 in
         (leb-true 1 (length ds) p.0, leb-true (length ds) 26 q.0, differ same_cell cell_equality ds r.0, r.1)
 
     direction_parts : (d : Cell) → lawful_direction d ≡ true → (within 1 d ≡ true) × (not (same_cell origin d) ≡ true) × (has same_cell (opposite d) ds ≡ true)
@@ -159,10 +162,10 @@ module _ (name : List ℕ) (ds : List Cell) (f : ℕ → Matrix) (n : ℕ) (os :
     motions_parts : (1 ≤ n) × (n ≤ 48) × (f 0 ≡ identity) × NoRepeats ms × ((g : ℕ) → g < n → lawful_motion g ≡ true)
     unfolding lawful_motions
     motions_parts =
-        let p = and_parts (leb 1 n) (leb n 48 && (same_matrix (f 0) identity && (is-distinct same_matrix ms && all_below n lawful_motion))) four.2 in
-        let q = and_parts (leb n 48) (same_matrix (f 0) identity && (is-distinct same_matrix ms && all_below n lawful_motion)) p.1 in
-        let r = and_parts (same_matrix (f 0) identity) (is-distinct same_matrix ms && all_below n lawful_motion) q.1 in
-        let s = and_parts (is-distinct same_matrix ms) (all_below n lawful_motion) r.1 in
+        let p = and_parts (leb 1 n) (leb n 48 && (same_matrix (f 0) identity && (is_distinct same_matrix ms && all_below n lawful_motion))) four.2 in
+        let q = and_parts (leb n 48) (same_matrix (f 0) identity && (is_distinct same_matrix ms && all_below n lawful_motion)) p.1 in
+        let r = and_parts (same_matrix (f 0) identity) (is_distinct same_matrix ms && all_below n lawful_motion) q.1 in
+        let s = and_parts (is_distinct same_matrix ms) (all_below n lawful_motion) r.1 in
         (leb-true 1 n p.0, leb-true n 48 q.0, (matrix_equality (f 0) identity).0 r.0, differ same_matrix matrix_equality ms s.0, each_below lawful_motion n s.1)
 
     motion_parts : (g : ℕ) → g < n → (small (f g) ≡ true) × (list_all (λ d. has same_cell (image (f g) d) ds) ds ≡ true) × (undo g < n) × (table (undo g) g ≡ 0)

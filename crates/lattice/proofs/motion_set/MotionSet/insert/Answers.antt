@@ -16,28 +16,16 @@ invariant_of-self c =
     let at = c.in-Placed.field-0 in
     let small : m < 48 = omega arith in
     let space : length new ≡ 48 = omega (arith, c.insert.auto.slots, s.space) in
-    let room : s.count < 48 = omega (arith, s.space, placed_room ltb m s.count s.motions at told.answer) in (
-      omega arith,
-      (
-        omega arith,
-        (
-          space,
-          (
-            added_climbs m s.count at s.motions new told.answer told.after s.ascending,
-            (
-              added_small m s.count at s.motions new told.answer told.after small space room s.small,
-              (
-                added_zero m s.count at s.motions new told.answer told.after s.some s.zero,
-                (
-                  added_blank m s.count at s.motions new told.answer told.after room s.blank,
-                  tt,
-                ),
-              ),
-            ),
-          ),
-        ),
-      ),
-    )
+    let room : s.count < 48 = omega (arith, s.space, placed_room ltb m s.count s.motions at told.answer) in
+    record {
+      some = omega arith;
+      few = omega arith;
+      space = space;
+      ascending = added_climbs m s.count at s.motions new told.answer told.after s.ascending;
+      small = added_small m s.count at s.motions new told.answer told.after small space room s.small;
+      zero = added_zero m s.count at s.motions new told.answer told.after s.some s.zero;
+      blank = added_blank m s.count at s.motions new told.answer told.after room s.blank;
+    }
 
 pub returns-in-Placed : goal.returns-in-Placed
 returns-in-Placed c =
