@@ -6,4 +6,4 @@ use Rattle.shapes.specs.Shapes.{shape_cells}
 use Rattle.shapes.proofs.flooding.flood.Given as goal
 
 abbrev pub invariant-loop-k : goal.invariant-loop-k
-invariant-loop-k g l = marked (shape_cells l.shape) l.marks ≡ flooded same_cell (neighbours (g.L.Lattice.directions l.lattice)) origin (shape_cells l.shape) l.-k
+invariant-loop-k g l = marked (shape_cells l.shape) l.marks ≡ flooded same_cell (neighbours (g.L.Lattice.directions l.lattice)) origin (shape_cells l.shape) l._k

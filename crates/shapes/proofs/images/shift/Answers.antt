@@ -50,15 +50,18 @@ difference-requires c =
     let i = c.loop-i.i in
     let f : Cell → Cell = λ y. minus y (get_or p.cells 0 origin) in
     record {
-      x-near = subst (Within 45) (sym (ahead f p.cells c.loop-i.cells i (omega (arith, p.few, p.space)) c.loop-i.invariant origin)) (near p i c.requires c.loop-i-test.true);
-      y-near = near p 0 c.requires (omega arith);
+      x_near = subst (Within 45) (sym (ahead f p.cells c.loop-i.cells i (omega (arith, p.few, p.space)) c.loop-i.invariant origin)) (near p i c.requires c.loop-i-test.true);
+      y_near = near p 0 c.requires (omega arith);
     }
 
 pub invariant_of-placement : goal.invariant_of-placement
 invariant_of-placement c =
     let p = c.args.placement.now in
     let f : Cell → Cell = λ y. minus y (get_or p.cells 0 origin) in
-    (p.few, (as_long f p.cells c.loop-i.cells c.loop-i.i (omega (arith, p.few, p.space, c.loop-i.auto.i-end)) c.loop-i.invariant ∙ p.space, tt))
+    record {
+      few = p.few;
+      space = as_long f p.cells c.loop-i.cells c.loop-i.i (omega (arith, p.few, p.space, c.loop-i.auto.i-end)) c.loop-i.invariant ∙ p.space;
+    }
 
 pub returns : goal.returns
 returns c =

@@ -9,7 +9,7 @@ use Rattle.shapes.specs.Shapes.{shape_cells}
 use Rattle.shapes.proofs.Members.{closed_usable, stays, sorted_kept_yes, sorted_kept_no, stabiliser_is}
 use Rattle.shapes.proofs.ShapeFacts.{shape_position}
 use Rattle.shapes.proofs.symmetry.stabiliser.Goals as goal
-use Rattle.shapes.proofs.symmetry.stabiliser.Goals.{then_Keeps, else-keeps}
+use Rattle.shapes.proofs.symmetry.stabiliser.Goals.{then-keeps, else-keeps}
 
 pub loop-motion-preserved : goal.loop-motion-preserved
 unfolding stays
@@ -22,7 +22,7 @@ loop-motion-preserved g c =
     let h : i < length gs = omega (arith, ap length c.as_slice-motion-items.ensures) in
     let item : get_or c.as_slice-motion-items.result.now i 0 ≡ get_or gs i 0 = ap (λ (l : List ℕ). get_or l i 0) c.as_slice-motion-items.ensures in
     elim c.if-keeps.branch [
-      | then_Keeps w ↦
+      | then-keeps w ↦
           let yes : stays ms s (get_or gs i 0) ≡ true = ap (stays ms s) (sym item) ∙ sym w.if-keeps.ensures in
           let small : get_or gs i 0 < 48 = omega (arith, (g.L.Lattice.rules l).few_motions, ltb-true _ _ (and_parts (ltb (get_or gs i 0) (length ms)) (same_cells (moved ms (get_or gs i 0) s) s) yes).0) in
           ap set_motions w.found-is ∙ w.insert.ensures.after ∙ cond-true (ltb _ 48) _ _ (ap (λ (k : ℕ). ltb k 48) item ∙ lt-ltb (get_or gs i 0) 48 small) ∙ ap (λ (k : ℕ). inserted ltb k (set_motions c.loop-motion.found)) item ∙ ap (inserted ltb (get_or gs i 0)) c.loop-motion.invariant ∙ sym (sorted_kept_yes (stays ms s) gs i h yes)

@@ -12,7 +12,7 @@ use Rattle.shapes.proofs.shape.Shape.new.Goals as goal
 pub returns-in_err-cell : goal.returns-in_err-cell
 returns-in_err-cell c =
     let xs = c.args.cells.now in
-    let p = err_from_is_err_and c.from-residual.result c.from-residual.ensures.1 in
+    let p = err_from_is_err_and c.from_residual.result c.from_residual.ensures.1 in
     let few : length xs ≤ 16 = omega arith in
     let here = read_fault c.loop-place.place c.loop-place.before xs _ c.loop-place-test.true c.widened.ensures _ c.in_err-cell.ensures in
     rw (p.1, p.2) (sym (ap (unless xs) (fault_counted xs (omega arith) few ∙ sym c.loop-place.invariant.1 ∙ here)))
@@ -35,7 +35,12 @@ invariant_of-result c =
     let some : 1 ≤ length xs = omega (arith, eqb-false (length xs) 0 (sym c.if-is_empty.ensures)) in
     let none = read_none xs l.place l.before at some (omega arith) l.invariant.1 in
     let blank = ap (λ n. drop n l.slots) (sym at) ∙ l.invariant.3 in
-    (c.if-cells-gt-MOST-CELLS.false, (l.invariant.0, (ap (λ ys. is_some (shape_fault ys)) (filled_all l.slots xs l.place at l.invariant.2) ∙ ap is_some none, (ap (list_all (λ x. is_eq (rank cell_less x origin))) blank ∙ blank_origins (16 - l.place), tt))))
+    record {
+      few = c.if-cells-gt-MOST_CELLS.false;
+      space = l.invariant.0;
+      sound = ap (λ ys. is_some (shape_fault ys)) (filled_all l.slots xs l.place at l.invariant.2) ∙ ap is_some none;
+      blank = ap (list_all (λ x. is_eq (rank cell_less x origin))) blank ∙ blank_origins (16 - l.place);
+    }
 
 pub returns : goal.returns
 returns c =
