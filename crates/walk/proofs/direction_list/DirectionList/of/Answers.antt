@@ -30,7 +30,11 @@ invariant_of-result g c =
     let rules = g.L.Lattice.rules c.args.lattice.now in
     let few = rules.few_directions in
     let e = copied ds c.loop-k.cells c.from-2.result c.loop-k.k (omega arith) c.loop-k.invariant.1 (omega arith) in
-    (omega arith, (c.loop-k.invariant.0, (subst (λ es. list_all (within 1) es ≡ true) (sym e) (all_pass_within 1 ds rules.directions_short), tt)))
+    record {
+      few = omega arith;
+      space = c.loop-k.invariant.0;
+      short = subst (λ es. list_all (within 1) es ≡ true) (sym e) (all_pass_within 1 ds rules.directions_short);
+    }
 
 pub returns : goal.returns
 returns g c = copied (g.L.Lattice.directions c.args.lattice.now) c.loop-k.cells c.from-2.result c.loop-k.k (omega arith) c.loop-k.invariant.1 (omega arith)

@@ -10,7 +10,10 @@ pub invariant_of-self : goal.invariant_of-self
 invariant_of-self c =
     let s = c.args.self.now in
     let u = c.seek.new.self in
-    (∣ sought_sound s.trail u c.seek.result c.seek.ensures ∣₁, (sought_end s.trail u c.seek.result c.seek.ensures s.end, tt))
+    record {
+      sound = ∣ sought_sound s.trail u c.seek.result c.seek.ensures ∣₁;
+      end = sought_end s.trail u c.seek.result c.seek.ensures s.end;
+    }
 
 pub returns : goal.returns
 returns c = advanced c.args.self.now _ c.seek.result c.seek.ensures

@@ -10,4 +10,7 @@ invariant_of-result g c =
     let t = c.new-trail.result in
     let k = c.new-trail.ensures in
     let all = all_picks (cells_around (ways t)) t.size in
-    (∣ k.sound ∣₁, (ends_same all all _ (k.all ∙ ap (all_picks (cells_around (ways t))) (sym k.size-is)) (ends_itself all), tt))
+    record {
+      sound = ∣ k.sound ∣₁;
+      end = ends_same all all _ (k.all ∙ ap (all_picks (cells_around (ways t))) (sym k.size_is)) (ends_itself all);
+    }
