@@ -1,6 +1,6 @@
 -- The rules of a lattice whose motions are given by number, from one test that is computed.
 use Rattle.std.proofs.Common.{◌≡◌, ℕ, zero, suc, ◌<◌, ◌≤◌, Bool, true, false, not, ◌&&◌, ◌||◌, eqb, ltb, leb, List, [], ◌∷◌, map, length, sym, refl, ap, ◌∙◌, inl, inr, ⊎_elim, zero-add}
-use Rattle.std.specs.List.{range_with_len, AllByRecursion as All, list_all}
+use Rattle.std.specs.List.{range_with_len, AllByRecursion, list_all}
 use Rattle.std.proofs.lemmas.List.FromFn.{length-map-range_with_len, get_or-map-range_with_len}
 use Rattle.std.proofs.lemmas.Bool.{and_parts, or_cases, eqb-true, ltb-true, lt-ltb, leb-true, true≢false, false≢true, not-true}
 use Rattle.std.proofs.lemmas.Bool.Decides.{Decides-below_and}
@@ -22,7 +22,7 @@ passes p [] e x h = absurd h
 passes p (y ∷ ys) e x (inl q) = ap p q ∙ (and_parts (p y) (list_all p ys) e).0
 passes p (y ∷ ys) e x (inr h) = passes p ys (and_parts (p y) (list_all p ys) e).1 x h
 
-all_from : {X : Type 0} (p : X → Bool) (P : X → Type 0) → ((x : X) → p x ≡ true → P x) → (xs : List X) → list_all p xs ≡ true → All P xs
+all_from : {X : Type 0} (p : X → Bool) (P : X → Type 0) → ((x : X) → p x ≡ true → P x) → (xs : List X) → list_all p xs ≡ true → AllByRecursion P xs
 all_from p P says [] e = tt
 all_from p P says (x ∷ xs) e = let t = and_parts (p x) (list_all p xs) e in (says x t.0, all_from p P says xs t.1)
 

@@ -10,7 +10,7 @@
 --     Name bs                        1 to 9 lower-case letters or hyphens
 --     Rules name ds ms os            the rules of a lattice
 use Rattle.std.specs.Prelude.{◌≡◌, ℕ, suc, ◌<◌, ◌≤◌, Bool, true, cond, not, ◌&&◌, ◌⊎◌, List, [], ◌∷◌, length, ◌==◌, nat_lt, slice_index_or}
-use Rattle.std.specs.List.{range_with_len, prefix_len, AllByRecursion as All}
+use Rattle.std.specs.List.{range_with_len, prefix_len, AllByRecursion}
 use Rattle.ordered.specs.Members.{In, NoRepeats}
 use Rattle.lattice.specs.declared.cell.Cell.{Cell}
 use Rattle.lattice.specs.Cells.{origin, opposite, Within, in_reach}
@@ -45,7 +45,7 @@ NameLetter b = (b ≡ 45) ⊎ ((97 ≤ b) × (b ≤ 122))
 pub record Name (bs : List ℕ) : Type 0 where
   pub some : 1 ≤ length bs
   pub short : length bs ≤ 9
-  pub letters : All NameLetter bs
+  pub letters : AllByRecursion NameLetter bs
 
 pub record Rules (name : List ℕ) (ds : List Cell) (ms : List Matrix) (os : ℕ → Bool) : Type 0 where
   -- 1. There are 1 to 26 directions, all different, none (0,0,0), with coordinates −1, 0 or 1.
@@ -53,14 +53,14 @@ pub record Rules (name : List ℕ) (ds : List Cell) (ms : List Matrix) (os : ℕ
   pub few_directions : length ds ≤ 26
   pub directions_differ : NoRepeats ds
   pub directions_move : In origin ds → ⊥
-  pub directions_short : All (Within 1) ds
+  pub directions_short : AllByRecursion (Within 1) ds
   -- 2. The negative of a direction is a direction.
   pub directions_back : (d : Cell) → In d ds → In (opposite d) ds
   -- 3. There are 1 to 48 motions, all different, with entries −1, 0 or 1, and motion 0 is the identity.
   pub some_motions : 1 ≤ length ms
   pub few_motions : length ms ≤ 48
   pub motions_differ : NoRepeats ms
-  pub motions_small : All Small ms
+  pub motions_small : AllByRecursion Small ms
   pub motion_0 : motion ms 0 ≡ identity
   -- 4. A motion carries each direction to a direction.
   pub directions_carried : (m : Matrix) (d : Cell) → In m ms → In d ds → In (image m d) ds

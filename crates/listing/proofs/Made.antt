@@ -1,7 +1,7 @@
 -- The walk makes the list of all classes: its pick lists pick the connected shapes of the size, in the order of their pick lists, and of these
 -- the least members are kept.
 use Rattle.std.proofs.Common.{◌≡◌, ℕ, ◌+◌, ◌≤◌, Bool, true, ltb, ◌⊎◌, ◌↔◌, List, [], ◌∷◌, map, length, None, filter, sym, refl, ◌∙◌, subst, inl, inr, arith}
-use Rattle.std.specs.List.{AllByRecursion as All}
+use Rattle.std.specs.List.{AllByRecursion}
 use Rattle.ordered.specs.Members.{In}
 use Rattle.ordered.specs.Orders.{Ascending, list_less}
 use Rattle.ordered.specs.Lookups.{sorted}
@@ -76,7 +76,7 @@ module _ (ds : List Cell) where
   walk_lawful s p con = (walks (cells_around ds)).complete s (rooted ds s p) con
 
 -- with steps of 1 a lawful pick list of 1 to 16 picks picks a shape without fault
-pub lawful_no_fault : (ds : List Cell) (n : ℕ) (p : List ℕ) → All (Within 1) ds → 1 ≤ n → n ≤ 16 → Lawful (cells_around ds) n p → shape_fault (shape_of ds p) ≡ None
+pub lawful_no_fault : (ds : List Cell) (n : ℕ) (p : List ℕ) → AllByRecursion (Within 1) ds → 1 ≤ n → n ≤ 16 → Lawful (cells_around ds) n p → shape_fault (shape_of ds p) ≡ None
 lawful_no_fault ds n p short l m h =
     let s = shape_of ds p in
     let t = lawful_shape ds n p l h in

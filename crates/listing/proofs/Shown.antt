@@ -1,6 +1,6 @@
 -- The shape that a search shows.
 use Rattle.std.proofs.Common.{◌≡◌, ℕ, ◌≤◌, leb, List, length, Ok, Err, Result, ap, ◌∙◌, arith}
-use Rattle.std.specs.List.{AllByRecursion as All}
+use Rattle.std.specs.List.{AllByRecursion}
 use Rattle.std.proofs.lemmas.Bool.{le-leb, cond-true}
 use Rattle.ordered.proofs.Members.{all_from_in}
 use Rattle.lattice.specs.declared.cell.Cell.{Cell}
@@ -25,7 +25,7 @@ pub shown_arranged : (s : Search) → Lawful (cells_around (search_directions s)
 shown_arranged s h =
     let ds = search_directions s in
     let g = cells_around ds in
-    let short : All (Within 1) ds = all_from_in (Within 1) ds (within_all_pass 1 ds s.trail.directions.short) in
+    let short : AllByRecursion (Within 1) ds = all_from_in (Within 1) ds (within_all_pass 1 ds s.trail.directions.short) in
     let few : length (cells_of g (shown s)) ≤ 16 = omega (arith, length_cells g (first_places g) (shown s), h.0, s.trail.few) in
     cond-true (leb (length (cells_of g (shown s))) 16) (shape_or_fault (shape_of ds (shown s))) (Err Count) (le-leb _ _ few)
     ∙ ap (unless (shape_of ds (shown s))) (lawful_no_fault ds (search_size s) (shown s) short (size_some s) s.trail.few h)

@@ -1,6 +1,6 @@
 -- What is in a list, at which place, and lists without repeats.
 use Rattle.std.proofs.Common.{◌≡◌, ℕ, zero, suc, ◌<◌, Bool, true, false, cond, ◌⊎◌, List, [], ◌∷◌, ◌++◌, map, length, get_or, filter, sym, refl, ap, ◌∙◌, subst, inl, inr, arith}
-use Rattle.std.specs.List.{ContainsAt as Has, AllByRecursion as All}
+use Rattle.std.specs.List.{ContainsAt, AllByRecursion}
 use Rattle.std.proofs.lemmas.Bool.{true≢false}
 use Rattle.ordered.specs.Members.{In, NoRepeats}
 
@@ -79,13 +79,13 @@ in_get_or [] k d h = absurd (omega arith)
 in_get_or (x ∷ xs) zero d h = inl refl
 in_get_or (x ∷ xs) (suc k) d h = inr (in_get_or xs k d (omega arith))
 
--- this is std's `Has xs x`
+-- this is std's `ContainsAt xs x`
 pub get_or_from_in : {X : Type 0} (xs : List X) (x : X) → In x xs → (k : ℕ) × (k < length xs) × ((d : X) → get_or xs k d ≡ x)
 get_or_from_in [] x h = absurd h
 get_or_from_in (y ∷ ys) x (inl e) = (0, omega arith, λ d. sym e)
 get_or_from_in (y ∷ ys) x (inr h) = let t = get_or_from_in ys x h in (suc t.0, omega (arith, t.1), t.2)
 
-pub in_from_has : {X : Type 0} (xs : List X) (x : X) → Has xs x → In x xs
+pub in_from_has : {X : Type 0} (xs : List X) (x : X) → ContainsAt xs x → In x xs
 in_from_has xs x t = in_cast xs (t.2 x) (in_get_or xs t.0 x t.1)
 
 pub no_repeats_place : {X : Type 0} (xs : List X) (i j : ℕ) (d : X) → NoRepeats xs → i < length xs → j < length xs → get_or xs i d ≡ get_or xs j d → i ≡ j
@@ -103,11 +103,11 @@ no_repeats_from_places (x ∷ xs) h = (
 )
 
 -- ---- what holds of each item
-pub all_in : {X : Type 0} (P : X → Type 0) (xs : List X) → All P xs → (x : X) → In x xs → P x
+pub all_in : {X : Type 0} (P : X → Type 0) (xs : List X) → AllByRecursion P xs → (x : X) → In x xs → P x
 all_in P [] a x h = absurd h
 all_in P (y ∷ ys) a x (inl e) = subst P (sym e) a.0
 all_in P (y ∷ ys) a x (inr h) = all_in P ys a.1 x h
 
-pub all_from_in : {X : Type 0} (P : X → Type 0) (xs : List X) → ((x : X) → In x xs → P x) → All P xs
+pub all_from_in : {X : Type 0} (P : X → Type 0) (xs : List X) → ((x : X) → In x xs → P x) → AllByRecursion P xs
 all_from_in P [] h = tt
 all_from_in P (x ∷ xs) h = (h x (inl refl), all_from_in P xs (λ y q. h y (inr q)))

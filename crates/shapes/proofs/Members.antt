@@ -1,6 +1,6 @@
 -- Members as calls tell them.
 use Rattle.std.proofs.Common.{◌≡◌, ℕ, ◌+◌, ◌<◌, Bool, true, false, cond, ◌&&◌, ltb, ◌⊎◌, List, [], ◌∷◌, ◌++◌, map, length, get_or, take, filter, sym, refl, ap, ◌∙◌, subst, inl, inr, append-nil, arith, length-take}
-use Rattle.std.specs.List.{AllByRecursion as All}
+use Rattle.std.specs.List.{AllByRecursion}
 use Rattle.std.proofs.lemmas.List.Elements.{filter_more}
 use Rattle.std.proofs.lemmas.List.{get_or-take, take_more}
 use Rattle.std.proofs.lemmas.Int.{ints}
@@ -46,13 +46,13 @@ module _ {name : List ℕ} {ds : List Cell} {ms : List Matrix} {os : ℕ → Boo
           image_within_45 (motion ms g) x (all_in Small ms R.motions_small (motion ms g) (in_get_or ms g identity (ltb-true g (length ms) t.0))) (within_says 15 x t.1)
       go false e = origin_near
 
-  pub images_near : (g : ℕ) (s : List Cell) → All (Within 45) (sorted cell_less (map (image_under ms g) s))
+  pub images_near : (g : ℕ) (s : List Cell) → AllByRecursion (Within 45) (sorted cell_less (map (image_under ms g) s))
   images_near g s =
       all_from_in (Within 45) (sorted cell_less (map (image_under ms g) s))
       (λ z h. let t = from_map (image_under ms g) s z (sorted_out cell_less cell_order (map (image_under ms g) s) z h) in rw t.2 (image_under_near g t.0))
 
 -- a motion of the lattice tells the image of a shape
-pub member_is_moved : (ms : List Matrix) (g : ℕ) (s : List Cell) → g < length ms → All (Within 15) s → member_under ms g s ≡ moved ms g s
+pub member_is_moved : (ms : List Matrix) (g : ℕ) (s : List Cell) → g < length ms → AllByRecursion (Within 15) s → member_under ms g s ≡ moved ms g s
 member_is_moved ms g s l a = ap normal (map_same_in (image_under ms g) (image (motion ms g)) s (λ x h. image_under_is ms g x l (all_in (Within 15) s a x h)))
 
 -- ---- sets of motions

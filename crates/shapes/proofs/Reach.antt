@@ -3,7 +3,7 @@ use Rattle.std.proofs.Common.{◌≡◌, ℕ, zero, suc, ◌+◌, ◌<◌, ◌�
 use lib.IntN.{neg_ℤ-+ℤ}
 use lib.ListN.{length-map}
 use lib.Signed.{lt_z}
-use Rattle.std.specs.List.{AllByRecursion as All}
+use Rattle.std.specs.List.{AllByRecursion}
 use Rattle.std.proofs.lemmas.Int.{ints, by_lt_z}
 use Rattle.ordered.specs.Members.{In, NoRepeats}
 use Rattle.ordered.proofs.Members.{in_cast, in_map, from_map, all_in}
@@ -67,7 +67,7 @@ along ds s p at-0 adds slow y l = go (p y) refl
     go (negsuc k) e = far ds s (λ x. neg_ℤ (p x)) (ap neg_ℤ at-0) (λ x d. ap neg_ℤ (adds x d) ∙ neg_ℤ-+ℤ (p x) (p d)) (λ d h. let b = (slow d h).0 in omega (arith, ints)) y (suc k) (ap neg_ℤ e) l
 
 -- ---- all three
-pub reached_short : (ds s : List Cell) → All (Within 1) ds → (y : Cell) → Reached (neighbours ds) origin s y → ShortOf (length s) y
+pub reached_short : (ds s : List Cell) → AllByRecursion (Within 1) ds → (y : Cell) → Reached (neighbours ds) origin s y → ShortOf (length s) y
 reached_short ds s short y l =
     let step = all_in (Within 1) ds short in
     (along ds s (λ x. x.a) refl (λ x d. refl) (λ d q. ((step d q).0, (step d q).1)) y l, along ds s (λ x. x.b) refl (λ x d. refl) (λ d q. ((step d q).2, (step d q).3)) y l, along ds s (λ x. x.c) refl (λ x d. refl) (λ d q. ((step d q).4, (step d q).5)) y l)
@@ -76,5 +76,5 @@ short_more : (n m : ℕ) (x : Cell) → n ≤ m → ShortOf n x → ShortOf m x
 short_more n m x l h = (omega arith, omega arith, omega arith)
 
 -- so a connected set of up to n + 1 cells lies from −n to n
-pub connected_within : (ds s : List Cell) (n : ℕ) → All (Within 1) ds → Connected (neighbours ds) origin s → length s ≤ n + 1 → (x : Cell) → In x s → Within n x
+pub connected_within : (ds s : List Cell) (n : ℕ) → AllByRecursion (Within 1) ds → Connected (neighbours ds) origin s → length s ≤ n + 1 → (x : Cell) → In x s → Within n x
 connected_within ds s n short con l x h = short_within n x (short_more (length s) (n + 1) x l (reached_short ds s short x (con x h)))

@@ -1,7 +1,7 @@
 -- What cells without a fault are: in normal position, in reach, 1 to 16; and so of the cells of a shape. The steps of looking for a fault.
 use Rattle.std.proofs.Common.{◌≡◌, ℕ, zero, suc, ◌+◌, ◌-◌, ◌<◌, ◌≤◌, Bool, true, false, cond, ◌&&◌, leb, List, [], ◌∷◌, length, get_or, take, drop, set, replicate, is_some, Some, None, Ok, Err, Option, sym, refl, ap, ◌∙◌, subst, inl, inr, add-one, arith, length-take}
 use Rattle.std.specs.Ordering.{is_eq}
-use Rattle.std.specs.List.{list_all, AllByRecursion as All}
+use Rattle.std.specs.List.{list_all, AllByRecursion}
 use Rattle.std.proofs.lemmas.Bool.{true≢false, and_parts, and_from, cond-true, leb-true, le-leb}
 use Rattle.std.proofs.lemmas.List.{take_all, at_drop_all, drop_more, drop-set-lt, drop-drop, drop-replicate, take_more, take_more_set}
 use Rattle.std.proofs.ByRecursion.{All-weaker}
@@ -71,7 +71,7 @@ module _ (i : ℕ) (before : Option Cell) (xs : List Cell) (w : Cell) (l : i < l
   read_fault f h = ap (first_fault i before) rest ∙ fault_here i before w (drop (i + 1) xs) f h
 
 -- ---- no fault
-later_says : (i : ℕ) (y : Cell) (xs : List Cell) → is_some (first_fault i (Some y) xs) ≡ false → Ascending cell_less (y ∷ xs) × All (λ x. in_reach x ≡ true) xs
+later_says : (i : ℕ) (y : Cell) (xs : List Cell) → is_some (first_fault i (Some y) xs) ≡ false → Ascending cell_less (y ∷ xs) × AllByRecursion (λ x. in_reach x ≡ true) xs
 later_says i y [] e = ((λ z h. absurd h, tt), tt)
 later_says i y (x ∷ xs) e =
     let t = first_says i (Some y) x xs e in
@@ -82,7 +82,7 @@ later_says i y (x ∷ xs) e =
     go z l m (inl q) = subst (λ (w : Cell). cell_less y w ≡ true) (sym q) l
     go z l m (inr h) = cell_order.transitive y x z l (m z h)
 
-later_none : (i : ℕ) (y : Cell) (xs : List Cell) → Ascending cell_less (y ∷ xs) → All (Within 15) xs → first_fault i (Some y) xs ≡ None
+later_none : (i : ℕ) (y : Cell) (xs : List Cell) → Ascending cell_less (y ∷ xs) → AllByRecursion (Within 15) xs → first_fault i (Some y) xs ≡ None
 later_none i y [] a w = refl
 later_none i y (x ∷ xs) a w = first_none i (Some y) x xs (within_test 15 x w.0) (a.0 x (inl refl)) (later_none (suc i) x xs a.1 w.1)
 
@@ -102,7 +102,7 @@ sound_position (x ∷ xs) e =
     let t = first_says 0 None x xs (count_says (x ∷ xs) e).2 in
     record { ascending = (later_says 1 x xs t.2).0; from_origin = same_rank cell_less cell_order x origin (is_equal (rank cell_less x origin) t.1) }
 
-pub sound_reach : (xs : List Cell) → is_some (shape_fault xs) ≡ false → All (λ x. in_reach x ≡ true) xs
+pub sound_reach : (xs : List Cell) → is_some (shape_fault xs) ≡ false → AllByRecursion (λ x. in_reach x ≡ true) xs
 sound_reach [] e = tt
 sound_reach (x ∷ xs) e = let t = first_says 0 None x xs (count_says (x ∷ xs) e).2 in (t.0, (later_says 1 x xs t.2).1)
 
@@ -110,7 +110,7 @@ pub sound_length : (xs : List Cell) → is_some (shape_fault xs) ≡ false → (
 sound_length xs e = let t = count_says xs e in (t.0, t.1)
 
 -- cells in normal position and in reach, 1 to 16 of them, have no fault
-pub no_fault : (xs : List Cell) → NormalPosition xs → 1 ≤ length xs → length xs ≤ 16 → All (Within 15) xs → shape_fault xs ≡ None
+pub no_fault : (xs : List Cell) → NormalPosition xs → 1 ≤ length xs → length xs ≤ 16 → AllByRecursion (Within 15) xs → shape_fault xs ≡ None
 no_fault [] p l m w = absurd p.from_origin
 no_fault (x ∷ xs) p l m w =
     fault_counted (x ∷ xs) l m
@@ -120,10 +120,10 @@ no_fault (x ∷ xs) p l m w =
 pub shape_position : (s : Shape) → NormalPosition (shape_cells s)
 shape_position s = sound_position (shape_cells s) s.sound
 
-pub shape_reach : (s : Shape) → All (λ x. in_reach x ≡ true) (shape_cells s)
+pub shape_reach : (s : Shape) → AllByRecursion (λ x. in_reach x ≡ true) (shape_cells s)
 shape_reach s = sound_reach (shape_cells s) s.sound
 
-pub shape_within : (s : Shape) → All (Within 15) (shape_cells s)
+pub shape_within : (s : Shape) → AllByRecursion (Within 15) (shape_cells s)
 shape_within s = All-weaker (λ x. in_reach x ≡ true) (Within 15) (λ x h. within_says 15 x h) (shape_cells s) (shape_reach s)
 
 pub shape_some : (s : Shape) → 1 ≤ length (shape_cells s)

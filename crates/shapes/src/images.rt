@@ -3,7 +3,7 @@ ghost use Rattle.std.specs.Prelude.{◌≡◌, ◌<◌, ◌≤◌, [], map, leng
 ghost use Rattle.ordered.specs.Lookups.{inserted, sorted as in_order};
 ghost use Rattle.lattice.specs.Cells.{Within, cell_less};
 ghost use Rattle.lattice.specs.Lattices.{image_under};
-ghost use Rattle.std.specs.List.{AllByRecursion as All};
+ghost use Rattle.std.specs.List.{AllByRecursion};
 ghost use Rattle.shapes.specs.Classes.{moved};
 ghost use Rattle.shapes.specs.Members.{placement_cells, member_under};
 ghost use Rattle.shapes.specs.Positions.{minus, shifted};
@@ -82,7 +82,7 @@ fn difference(x: Cell, y: Cell) -> Cell
 
 // Takes the first cell away from each.
 fn shift(placement: &mut Placement)
-    requires { All (Within 45) (placement_cells placement.old) }
+    requires { AllByRecursion (Within 45) (placement_cells placement.old) }
     ensures { placement_cells placement.new ≡ shifted (placement_cells placement.old) }
 {
     let count = placement.count;

@@ -1,7 +1,7 @@
 -- The cells of a lattice as a walk sees them: what is on a list of cells, and how far the cells of a place list are.
 use Rattle.std.proofs.Common.{◌≡◌, ℕ, ◌+◌, ◌<◌, Bool, true, false, cond, not, ◌&&◌, List, [], ◌∷◌, ◌++◌, length, get_or, take, drop, sym, refl, ap, ◌∙◌, subst, inl, inr, ⊎_elim, arith}
 use lib.ListN.{length-map}
-use Rattle.std.specs.List.{AllByRecursion as All, list_all}
+use Rattle.std.specs.List.{AllByRecursion, list_all}
 use Rattle.std.proofs.lemmas.List.{take_more, at_drop_more, get_or_past}
 use Rattle.std.proofs.lemmas.Int.{ints}
 use Rattle.std.proofs.lemmas.Bool.{or_from, and_from, and_parts, cases_lt, cond-true}
@@ -66,7 +66,7 @@ module _ (ds : List Cell) where
   put_more P x k l = at_drop_more (λ r. put_all (cells_around ds) P (neighbours r x)) ds k origin l
 
 -- ---- how far
-pub all_pass_within : (r : ℕ) (xs : List Cell) → All (Within r) xs → list_all (within r) xs ≡ true
+pub all_pass_within : (r : ℕ) (xs : List Cell) → AllByRecursion (Within r) xs → list_all (within r) xs ≡ true
 all_pass_within r [] h = refl
 all_pass_within r (x ∷ xs) h = and_from (within r x) (list_all (within r) xs) (within_test r x h.0) (all_pass_within r xs h.1)
 

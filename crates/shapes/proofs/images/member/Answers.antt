@@ -1,5 +1,5 @@
 use Rattle.std.proofs.Common.{sym, ap, ◌∙◌, subst}
-use Rattle.std.specs.List.{AllByRecursion as All}
+use Rattle.std.specs.List.{AllByRecursion}
 use Rattle.lattice.specs.Cells.{Within}
 use Rattle.shapes.specs.Positions.{shifted}
 use Rattle.shapes.specs.Shapes.{shape_cells}
@@ -10,7 +10,7 @@ use Rattle.shapes.proofs.images.member.Goals as goal
 pub shift-requires : goal.shift-requires
 shift-requires g c =
     let l = c.args.lattice.now in
-    subst (All (Within 45)) (sym c.images-placement.ensures) (images_near (g.L.Lattice.rules l) c.args.motion (shape_cells c.args.shape.now))
+    subst (AllByRecursion (Within 45)) (sym c.images-placement.ensures) (images_near (g.L.Lattice.rules l) c.args.motion (shape_cells c.args.shape.now))
 
 pub returns : goal.returns
 returns g c =

@@ -1,6 +1,6 @@
 use Rattle.std.proofs.Common.{◌≡◌, ℕ, zero, suc, ◌<◌, ◌≤◌, List, [], ◌∷◌, ◌++◌, map, length, get_or, take, drop, set, sym, refl, ap, ◌∙◌, subst, arith, length-append, length-drop, length-take}
 use lib.ListN.{length-map}
-use Rattle.std.specs.List.{AllByRecursion as All}
+use Rattle.std.specs.List.{AllByRecursion}
 use Rattle.std.proofs.lemmas.List.Edits.{map_over_more}
 use Rattle.std.proofs.lemmas.List.{get_or-append_right, get_or-drop, get_or-take, get_or_default, length-take-le, take_at}
 use Rattle.ordered.proofs.Members.{all_in, in_get_or}
@@ -30,7 +30,7 @@ shifted_first zero xs = refl
 shifted_first (suc n) [] = refl
 shifted_first (suc n) (x ∷ xs) = refl
 
-near : (p : Placement) (k : ℕ) → All (Within 45) (placement_cells p) → k < p.count → Within 45 (get_or p.cells k origin)
+near : (p : Placement) (k : ℕ) → AllByRecursion (Within 45) (placement_cells p) → k < p.count → Within 45 (get_or p.cells k origin)
 near p k a h = subst (Within 45) (get_or-take p.count p.cells k origin h) (all_in (Within 45) (placement_cells p) a _ (in_get_or (placement_cells p) k origin (omega (arith, length-take p.count p.cells, p.few, p.space))))
 
 pub loop-i-preserved : goal.loop-i-preserved

@@ -13,7 +13,7 @@ loop-cell-init c =
     let s = c.cells-cells.result.now in
     let f = along c.args.axis in
     let some : 0 < length s = omega (arith, ap length c.cells-cells.ensures, shape_some c.args.shape.now) in
-    let first : to_z w8 (of_z w8 c.coordinate-least.result) ≡ f (get_or s 0 origin) = to_z-of_z w8 c.coordinate-least.result (record { sfits = c.coordinate-least.type-inv }) ∙ c.coordinate-least.ensures in
+    let first : to_z w8 (of_z w8 c.coordinate-least.result) ≡ f (get_or s 0 origin) = to_z-of_z w8 c.coordinate-least.result (record { sfits = c.coordinate-least.type_inv }) ∙ c.coordinate-least.ensures in
     (best_first lt_z f s origin _ some first, best_first (λ x y. lt_z y x) f s origin _ some first)
 
 pub loop-cell-preserved : goal.loop-cell-preserved
@@ -21,9 +21,9 @@ loop-cell-preserved c =
     let s = c.cells-cells.result.now in
     let f = along c.args.axis in
     let i = c.loop-cell.cell-index in
-    let x : to_z w8 (of_z w8 c.coordinate-x.result) ≡ f (get_or s i origin) = to_z-of_z w8 c.coordinate-x.result (record { sfits = c.coordinate-x.type-inv }) ∙ c.coordinate-x.ensures in
-    let low = to_z-of_z w8 c.min-least.result (record { sfits = c.min-least.type-inv }) ∙ c.min-least.ensures.value in
-    let high = to_z-of_z w8 c.max-greatest.result (record { sfits = c.max-greatest.type-inv }) ∙ c.max-greatest.ensures.value in
+    let x : to_z w8 (of_z w8 c.coordinate-x.result) ≡ f (get_or s i origin) = to_z-of_z w8 c.coordinate-x.result (record { sfits = c.coordinate-x.type_inv }) ∙ c.coordinate-x.ensures in
+    let low = to_z-of_z w8 c.min-least.result (record { sfits = c.min-least.type_inv }) ∙ c.min-least.ensures.value in
+    let high = to_z-of_z w8 c.max-greatest.result (record { sfits = c.max-greatest.type_inv }) ∙ c.max-greatest.ensures.value in
     (best_more lt_z f s i origin _ _ _ (omega arith) x low ∙ c.loop-cell.invariant.0, greatest_more f s i origin _ _ _ (omega arith) x high ∙ c.loop-cell.invariant.1)
 
 pub returns : goal.returns
