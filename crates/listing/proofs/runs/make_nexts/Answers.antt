@@ -18,7 +18,7 @@ pub loop-k-preserved : goal.loop-k-preserved
 loop-k-preserved g c =
     let list = ahead (g.S.Source.stands c.args.source.now) in
     let cs = replicate c.args.nexts Next in
-    let k = c.loop-k.-k in
+    let k = c.loop-k._k in
     let old = vec_items c.loop-k.replies in
     let s = g.S.Source.stands c.loop-k.source in
     let t = g.S.Source.stands c.one_next.new.source in

@@ -8,5 +8,5 @@ use Rattle.listing.proofs.runs.make_nexts.Given as goal
 abbrev pub invariant-loop-k : goal.invariant-loop-k
 invariant-loop-k g l =
     let list = ahead (g.S.Source.stands l.initial.source) in
-    (length (vec_items l.replies) ≡ l.-k)
+    (length (vec_items l.replies) ≡ l._k)
     × SoFar (λ past _ a. NextRight list past a) list (replicate l.nexts Next) (vec_items l.replies) (ahead (g.S.Source.stands l.source))

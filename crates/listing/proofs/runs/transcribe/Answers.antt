@@ -19,8 +19,8 @@ returns-in_err-lister g c =
     let L = g.L.Lattice in
     let x = opening_for (L.directions l) (L.motions l) (L.onesided l) c.args.size c.args.kind in
     let list = ahead (g.P.Source.stands c.args.pile.now) in
-    let p = err_from_is_err_and c.from-residual.result c.from-residual.ensures.1 in
-    let ran = ran_refused x list c.args.calls.now c.args.nexts (vec_items c.clear.new.self) (vec_items c.clear-2.new.self) c.from-residual.result c.in_err-lister.field-0.0 (p.1 ∙ ap Err p.2) (refused_by x c.in_err-lister.field-0.0 _ c.in_err-lister.ensures) c.clear.ensures.items c.clear-2.ensures.items in
+    let p = err_from_is_err_and c.from_residual.result c.from_residual.ensures.1 in
+    let ran = ran_refused x list c.args.calls.now c.args.nexts (vec_items c.clear.new.self) (vec_items c.clear-2.new.self) c.from_residual.result c.in_err-lister.field-0.0 (p.1 ∙ ap Err p.2) (refused_by x c.in_err-lister.field-0.0 _ c.in_err-lister.ensures) c.clear.ensures.items c.clear-2.ensures.items in
     record { opening = ran.opening; lister = ran.lister; unopened = ran.unopened; sieves = ran.sieves; whole = ran.whole }
 
 -- a run that is right for the listing is right for the one list of all classes
@@ -38,8 +38,8 @@ returns-in_err-make_calls g c =
     let (o, h, fresh) = opened_by x c.in_ok-lister.lister _ c.in_ok-lister.ensures in
     let (laws, some) = opening_laws (L.letters l) (L.directions l) (L.motions l) (L.onesided l) (L.rules l) c.args.size c.args.kind o h in
     let right = listed o laws some calls answers (c.make_calls.ensures.right o fresh.0 fresh.1 laws some) in
-    let p = err_from_is_err_and c.from-residual-in_err-make_calls.result c.from-residual-in_err-make_calls.ensures.1 in
-    let ran = ran_short x list calls c.args.nexts answers (vec_items c.clear-2.new.self) o h right c.from-residual-in_err-make_calls.result (p.1 ∙ ap Err (p.2 ∙ c.in_err-make_calls.ensures.ran)) (no_nexts list c.args.nexts (vec_items c.clear-2.new.self) c.clear-2.ensures.items) in
+    let p = err_from_is_err_and c.from_residual-in_err-make_calls.result c.from_residual-in_err-make_calls.ensures.1 in
+    let ran = ran_short x list calls c.args.nexts answers (vec_items c.clear-2.new.self) o h right c.from_residual-in_err-make_calls.result (p.1 ∙ ap Err (p.2 ∙ c.in_err-make_calls.ensures.ran)) (no_nexts list c.args.nexts (vec_items c.clear-2.new.self) c.clear-2.ensures.items) in
     record { opening = ran.opening; lister = ran.lister; unopened = ran.unopened; sieves = ran.sieves; whole = ran.whole }
 
 pub returns : goal.returns
