@@ -8,7 +8,7 @@ use Rattle.catalogue.specs.Writers.{led}
 abbrev pub mark_at : ℕ → ℕ → ℕ
 mark_at m i = cond (eqb i 0) m 32
 
-mark_later : (m i : ℕ) → mark_at m (suc i) ≡ 32
+pub mark_later : (m i : ℕ) → mark_at m (suc i) ≡ 32
 mark_later m i = cond-false (eqb (suc i) 0) m 32 (ne_eqb (suc i) 0 (omega arith))
 
 -- texts behind spaces, and one more

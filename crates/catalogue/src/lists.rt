@@ -1,6 +1,6 @@
 // List fields: items parted by one space.
 ghost use Rattle.std.specs.Prelude.{◌≡◌, ◌+◌, ◌*◌, ◌≤◌, map, length};
-ghost use Rattle.catalogue.specs.Writers.{Goes_on, led};
+ghost use Rattle.catalogue.specs.Writers.{GoesOn, led};
 
 use crate::items::{Item, put_behind};
 
@@ -21,7 +21,7 @@ pub(crate) fn list_length<T: Item>(items: &[T]) -> usize
 pub(crate) fn put_list<T: Item>(buffer: &mut [u8], at: usize, items: &[T]) -> usize
     requires { at + length (led 9 (map T.text items.now)) ≤ length buffer.old }
     ensures value { result ≡ at + length (led 9 (map T.text items.now)) }
-    ensures after { Goes_on at (led 9 (map T.text items.now)) buffer.old buffer.new }
+    ensures after { GoesOn at (led 9 (map T.text items.now)) buffer.old buffer.new }
 {
     let mut end = at;
     let mut mark = b'\t';

@@ -5,7 +5,7 @@ use Rattle.catalogue.proofs.items.put_behind.Goals as goal
 
 pub returns : goal.returns
 returns g c =
-    let t = g.T-as-Item.text c.args.item.now in
+    let t = g.T.Item.text c.args.item.now in
     let at = c.args.at in
     let m = c.args.mark in
     record {
