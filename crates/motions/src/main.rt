@@ -5,6 +5,7 @@ mod formula;
 #[cfg(test)]
 mod tests;
 
+use anyhow::anyhow;
 use formula::Formula;
 use lattice::cell::Cell;
 use lattice::inverse::inverse;
@@ -33,7 +34,7 @@ fn run(rt: &HostRuntime) -> anyhow::Result<()> {
         Ok(Known::Square) => print_lattice(rt, &Square),
         Ok(Known::Hex) => print_lattice(rt, &Hex),
         Ok(Known::Cubic) => print_lattice(rt, &Cubic),
-        Err(refusal) => Err(reason(refusal).into()),
+        Err(refusal) => Err(anyhow!("{}", reason(refusal))),
     }
 }
 
