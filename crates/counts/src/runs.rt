@@ -76,7 +76,7 @@ pub(super) fn show_run<O: Write>(heap: Global, out: &mut O) -> anyhow::Result<()
         NEXTS,
         &mut replies,
     ) {
-        return Err(reason(stop).into());
+        return Err(anyhow!("{}", reason(stop)));
     }
     write_calls(out, &calls, answers.as_slice())?;
     write_nexts(out, first, replies.as_slice())?;

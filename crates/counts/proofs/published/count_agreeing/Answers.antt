@@ -3,7 +3,7 @@ use Rattle.std.proofs.lemmas.List.{take_all}
 use Rattle.std.proofs.lemmas.List.Sums.{count_by_more_yes, count_by_more_no}
 use Rattle.counts.specs.Comparisons.{agreed}
 use Rattle.counts.proofs.published.count_agreeing.Goals as goal
-use Rattle.counts.proofs.published.count_agreeing.Goals.{then_agrees, else-agrees}
+use Rattle.counts.proofs.published.count_agreeing.Goals.{then-agrees, else-agrees}
 
 pub loop-comparison-preserved : goal.loop-comparison-preserved
 loop-comparison-preserved c =
@@ -11,7 +11,7 @@ loop-comparison-preserved c =
     let i = c.loop-comparison.comparison-index in
     let inv = c.loop-comparison.invariant in
     elim c.if-agrees.branch [
-      | then_agrees w ↦
+      | then-agrees w ↦
           let more = count_by_more_yes agreed cs i _ c.loop-comparison-test.true (sym w.if-agrees.ensures) in
           (omega (arith, w.agreeing-is, inv.0, more), omega (arith, w.agreeing-is, inv.1))
       | else-agrees w ↦
