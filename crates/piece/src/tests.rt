@@ -65,7 +65,7 @@ fn pick_lists(rt: HostRuntime) -> Result<(), Fail> {
     let Some(list) = pick_list(&Square, &request.shape) else {
         return Err(Fail::new("connected"))
     };
-    assert!(rt; list.picks() == &[0, 1, 4]);
+    assert!(rt; list.picks() == [0, 1, 4].as_slice());
     assert_eq!(rt; fixed(&Square, 5), 63);
     assert_eq!(rt; fixed(&Hex, 5), 186);
     assert_eq!(rt; fixed(&Cubic, 5), 534);
