@@ -1,5 +1,5 @@
 -- Texts written one behind the other.
-use Rattle.std.proofs.Common.{◌≡◌, ℕ, ◌+◌, List, [], ◌∷◌, ◌++◌, length, sym, refl, ap, ◌∙◌, subst, append_assoc, append-nil, arith, length-append}
+use Rattle.std.proofs.Common.{◌≡◌, ℕ, ◌+◌, List, [], ◌++◌, length, sym, refl, ap, ◌∙◌, append_assoc, arith, length-append}
 use Rattle.std.specs.Fmt.{signed_decimal}
 use Rattle.ordered.specs.Lookups.{over}
 use Rattle.lattice.specs.declared.cell.Cell.{Cell}

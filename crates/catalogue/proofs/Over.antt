@@ -1,5 +1,5 @@
 -- What a write behind the start of a text leaves: the text grows, and what lies behind it stays.
-use Rattle.std.proofs.Common.{◌≡◌, ℕ, ◌+◌, ◌-◌, ◌<◌, ◌≤◌, List, [], ◌∷◌, ◌++◌, length, take, drop, set, sym, refl, ap, ◌∙◌, append_assoc, append-nil, add-one, arith, length-append, drop-cons}
+use Rattle.std.proofs.Common.{◌≡◌, ℕ, ◌-◌, ◌<◌, ◌≤◌, List, [], ◌∷◌, ◌++◌, length, take, drop, set, ap, append_assoc, append-nil, add-one, arith, length-append, drop-cons}
 use borrow.Rule.Slice.PartMut.{put_mid}
 use lib.Seq.{set-append_seam}
 use Rattle.std.proofs.lemmas.List.{drop_all, take_all, drop-drop, take_at, drop_at}

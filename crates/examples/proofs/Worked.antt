@@ -1,5 +1,5 @@
 -- The worked examples hold: each is computed.
-use Rattle.std.proofs.Common.{◌≡◌, List, [], ◌∷◌, take, Some, Ok, refl, ap, ◌∙◌}
+use Rattle.std.proofs.Common.{◌≡◌, [], ◌∷◌, take, Some, Ok, refl, ap, ◌∙◌}
 use Rattle.lattice.specs.Lattices.{number_after}
 use Rattle.lattice.specs.Matrices.{image, row_times, product, identity, same_matrix}
 use Rattle.lattices.specs.Plane.{swap}
@@ -10,7 +10,7 @@ use Rattle.shapes.specs.Entries.{values}
 use Rattle.walk.specs.CellsAround.{cells_around}
 use Rattle.walk.specs.Listings.{all_picks}
 use Rattle.walk.specs.Walks.{pick_list}
-use Rattle.listing.specs.declared.whereabouts.Whereabouts.TheVariants.{Given, ToCome, Foreign}
+use Rattle.listing.specs.declared.whereabouts.Whereabouts.TheVariants.{Given, ToCome}
 use Rattle.listing.specs.Made.{listing}
 use Rattle.listing.specs.Whereabouts.{whereabouts_of}
 use Rattle.examples.specs.Worked.{at, pair, corner, line, climb, square_opening, hex_opening, cubic_opening, square_free, hex_free, cubic_free, WorkedExamples}

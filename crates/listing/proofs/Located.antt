@@ -28,7 +28,6 @@ use Rattle.walk.proofs.Complete.{some_says}
 use Rattle.walk.proofs.Listings.{picks_listed}
 use Rattle.walk.proofs.Searches.{whole_listed}
 use Rattle.listing.specs.declared.lister.Lister.{Lister}
-use Rattle.listing.specs.declared.whereabouts.Whereabouts.{Whereabouts}
 use Rattle.listing.specs.declared.whereabouts.Whereabouts.TheVariants.{Given, ToCome, Foreign}
 use Rattle.listing.specs.Openings.{Opening}
 use Rattle.listing.specs.Classes.{Belongs, exact, picks}

@@ -1,15 +1,13 @@
 -- A run, moment by moment.
-use Rattle.std.proofs.Common.{◌≡◌, ℕ, zero, suc, ◌+◌, ◌<◌, ◌≤◌, List, [], ◌∷◌, ◌++◌, length, take, drop, replicate, sym, refl, ap, ◌∙◌, subst, ⊎_elim, append_assoc, arith, length-append}
+use Rattle.std.proofs.Common.{◌≡◌, ℕ, zero, suc, ◌+◌, ◌<◌, ◌≤◌, List, [], ◌∷◌, ◌++◌, length, take, drop, sym, refl, ap, ◌∙◌, subst, ⊎_elim, append_assoc, arith, length-append}
 use lib.Seq.{take-append-le}
 use Rattle.std.proofs.lemmas.List.{append-nil, take_all}
 use Rattle.std.proofs.lemmas.Bool.{cases_lt}
-use Rattle.shapes.specs.declared.entry.Entry.{Entry}
 use Rattle.shapes.specs.Entries.{EntryValues, entry_values}
 use Rattle.walk.specs.Neighbourhoods.{Begins}
 use Rattle.listing.specs.declared.calls.Answer.{Answer}
 use Rattle.listing.specs.declared.calls.Answer.TheVariants.{Handed, Refused, Told}
 use Rattle.listing.specs.declared.calls.Call.{Call}
-use Rattle.listing.specs.declared.calls.Call.TheVariants.{Next, Ask}
 use Rattle.listing.specs.Runs.{handed_by, handed, NextRight, Each, RightRun}
 use Rattle.sources.specs.Sources.{Standing, ahead}
 use Rattle.listing.specs.Turns.{Replied}

@@ -2,23 +2,21 @@
 use Rattle.std.proofs.Common.{◌≡◌, ℕ, Bool, true, false, cond, ◌&&◌, leb, List, [], ◌∷◌, ◌++◌, Ok, Err, Result, sym, refl, ap, ◌∙◌, subst, arith}
 use Rattle.std.proofs.lemmas.List.Sums.{fold_push}
 use Rattle.lattice.specs.declared.cell.Cell.{Cell}
-use Rattle.lattice.specs.declared.refusal.Refusal.{Refusal}
 use Rattle.lattice.specs.Kinds.{Closed, set_motions, numbered_motions}
 use Rattle.lattice.specs.Matrices.{Matrix}
 use Rattle.shapes.specs.Entries.{EntryValues}
 use Rattle.shapes.specs.Members.{usable}
 use Rattle.shapes.proofs.Members.{closed_usable}
-use Rattle.walk.specs.declared.search.Search.{Search}
 use Rattle.walk.specs.CellsAround.{cells_around}
 use Rattle.walk.specs.Listings.{all_picks}
 use Rattle.walk.specs.PlaceLists.{pick_numbers}
-use Rattle.walk.specs.Searches.{search_directions, search_size, left, behind, shown, begun, Fresh, Alike}
+use Rattle.walk.specs.Searches.{search_directions, left, behind, shown, begun, Fresh, Alike}
 use Rattle.listing.specs.declared.lister.Lister.{Lister}
-use Rattle.listing.specs.Openings.{Opening, opening, with_set, opening_for, Opened}
+use Rattle.listing.specs.Openings.{Opening, opening, with_set, opening_for}
 use Rattle.listing.specs.Classes.{exact, picks}
 use Rattle.sources.specs.Sources.{standing, Gave}
 use Rattle.listing.specs.Made.{shape_of, is_least, entries_of, listing}
-use Rattle.listing.specs.Listers.{listed_by, stands_of, last_picks, LastRight, Kept, OpenedBy}
+use Rattle.listing.specs.Listers.{listed_by, stands_of, last_picks, Kept, OpenedBy}
 use Rattle.listing.proofs.Searching.{Come}
 
 pub last_push : (o : Opening) (es : List EntryValues) (e : EntryValues) → last_picks o (es ++ e ∷ []) ≡ picks o e.cells

@@ -3,8 +3,6 @@ use Rattle.std.proofs.Common.{◌≡◌, ℕ, true, false, List, [], ◌∷◌, 
 use Rattle.std.proofs.lemmas.List.Elements.{filter-append}
 use Rattle.std.proofs.lemmas.List.{append-nil, map-append}
 use Rattle.std.proofs.lemmas.Bool.{cond-true, cond-false}
-use Rattle.lattice.specs.declared.cell.Cell.{Cell}
-use Rattle.shapes.specs.Entries.{EntryValues}
 use Rattle.walk.specs.declared.search.Search.{Search}
 use Rattle.walk.specs.Searches.{left, behind, shown, Alike, NextShown}
 use Rattle.listing.specs.Openings.{Opening}

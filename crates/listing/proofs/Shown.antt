@@ -1,11 +1,9 @@
 -- The shape that a search shows.
-use Rattle.std.proofs.Common.{◌≡◌, ℕ, ◌≤◌, leb, List, length, Ok, Err, Result, ap, ◌∙◌, arith}
+use Rattle.std.proofs.Common.{◌≡◌, ◌≤◌, leb, length, Ok, Err, ap, ◌∙◌, arith}
 use Rattle.std.specs.List.{AllByRecursion}
 use Rattle.std.proofs.lemmas.Bool.{le-leb, cond-true}
 use Rattle.ordered.proofs.Members.{all_from_in}
-use Rattle.lattice.specs.declared.cell.Cell.{Cell}
 use Rattle.lattice.specs.Cells.{Within}
-use Rattle.shapes.specs.declared.shape_fault.ShapeFault.{ShapeFault}
 use Rattle.shapes.specs.declared.shape_fault.ShapeFault.TheVariants.{Count}
 use Rattle.shapes.specs.Faults.{unless, shape_or_fault, arranged_or_fault}
 use Rattle.walk.specs.declared.search.Search.{Search}

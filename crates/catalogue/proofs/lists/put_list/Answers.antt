@@ -1,4 +1,4 @@
-use Rattle.std.proofs.Common.{◌≡◌, ℕ, ◌+◌, List, ◌∷◌, ◌++◌, map, length, get_or, take, sym, refl, ap, ◌∙◌, subst, append-nil, add-one, arith, length-append}
+use Rattle.std.proofs.Common.{◌≡◌, ◌+◌, ◌∷◌, ◌++◌, map, length, take, sym, refl, ap, ◌∙◌, subst, append-nil, add-one, arith, length-append}
 use Rattle.std.proofs.lemmas.List.{take_all}
 use Rattle.ordered.specs.Lookups.{over}
 use Rattle.catalogue.specs.Writers.{GoesOn, led}

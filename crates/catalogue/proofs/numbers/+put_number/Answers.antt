@@ -1,4 +1,4 @@
-use Rattle.std.proofs.Common.{◌/◌, ◌^◌, ◌<◌, [], length, decimal, sym, refl, arith, length-append, rules}
+use Rattle.std.proofs.Common.{◌/◌, ◌^◌, ◌<◌, [], length, decimal, refl, arith, length-append, rules}
 use Rattle.std.proofs.lemmas.Fmt.{decimal_digit, decimal_step, decimal_nonempty, length-decimal-le}
 use Rattle.catalogue.proofs.Over.{over_byte}
 use Rattle.catalogue.proofs.numbers.+put_number.Goals as goal

@@ -1,4 +1,4 @@
-use Rattle.std.proofs.Common.{◌≡◌, ◌<◌, [], ◌∷◌, length, decimal, refl, arith, rules}
+use Rattle.std.proofs.Common.{◌≡◌, ◌<◌, [], ◌∷◌, length, decimal, refl, rules}
 use Rattle.std.specs.Fmt.{signed_decimal}
 use Rattle.catalogue.proofs.Over.{over_byte, over_part}
 use Rattle.catalogue.proofs.numbers.put_signed.Goals as goal

@@ -1,4 +1,4 @@
-use Rattle.std.proofs.Common.{◌≡◌, ℕ, List, Ok, Err, Result, sym, ap, ◌∙◌, arith}
+use Rattle.std.proofs.Common.{◌≡◌, ℕ, List, Ok, Err, Result, ap, ◌∙◌, arith}
 use Rattle.lattice.specs.declared.cell.Cell.{Cell}
 use Rattle.shapes.specs.declared.shape_fault.ShapeFault.{ShapeFault}
 use Rattle.shapes.specs.Faults.{arranged_or_fault}

@@ -1,8 +1,7 @@
-use Rattle.std.proofs.Common.{◌≡◌, ◌+◌, ◌<◌, List, [], ◌∷◌, ◌++◌, length, get_or, drop, replicate, vec_items, sym, ap, ◌∙◌, subst, arith, length-append}
+use Rattle.std.proofs.Common.{◌≡◌, ◌+◌, ◌<◌, List, [], ◌∷◌, ◌++◌, length, get_or, drop, replicate, vec_items, sym, ap, subst, arith, length-append}
 use lib.ListN.{length-replicate}
 use Rattle.std.proofs.lemmas.List.{drop_more}
 use Rattle.listing.specs.declared.calls.Answer.{Answer}
-use Rattle.listing.specs.declared.calls.Call.{Call}
 use Rattle.listing.specs.declared.calls.Call.TheVariants.{Next}
 use Rattle.listing.specs.Runs.{handed, NextRight}
 use Rattle.sources.specs.Sources.{ahead}

@@ -1,4 +1,4 @@
-use Rattle.std.proofs.Common.{◌≡◌, ◌≤◌, length, replicate, vec_items}
+use Rattle.std.proofs.Common.{◌≡◌, length, replicate, vec_items}
 use Rattle.listing.specs.declared.calls.Call.TheVariants.{Next}
 use Rattle.listing.specs.Runs.{NextRight}
 use Rattle.sources.specs.Sources.{ahead}

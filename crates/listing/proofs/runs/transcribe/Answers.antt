@@ -1,4 +1,4 @@
-use Rattle.std.proofs.Common.{◌≡◌, ℕ, ◌≤◌, List, Ok, Err, vec_items, ap, ◌∙◌, subst}
+use Rattle.std.proofs.Common.{◌≤◌, List, Err, vec_items, ap, ◌∙◌}
 use Rattle.std.proofs.lemmas.Result.{err_from_is_err_and}
 use Rattle.shapes.specs.Classes.{ClassLaws}
 use Rattle.listing.specs.declared.calls.Answer.{Answer}
