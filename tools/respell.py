@@ -108,8 +108,8 @@ def aligned(old, new):
     """In the lists that head the files of specs/, what a name means stays in its column."""
     olds, news = old.split("\n"), new.split("\n")
     for i, (a, b) in enumerate(zip(olds, news)):
-        if b.startswith("--     ") and len(b) < len(a):
-            news[i] = re.sub(r"(?<=\S)(  +)", lambda m: m[0] + " " * (len(a) - len(b)), b, count=1)
+        if b.startswith("--     ") and len(b) != len(a):
+            news[i] = re.sub(r"(?<=[^\s-])(  +)", lambda m: " " * max(2, len(m[0]) + len(a) - len(b)), b, count=1)
     return "\n".join(news)
 
 

@@ -4,7 +4,7 @@
 --     climb, apart           three cells about another corner, and three of which none is next to another
 --     square_opening n k     what opening_for gives on the square lattice for the size n and the kind with the number k; so for hex and cubic
 --     square_free n          the opening of the square lattice for the size n and the motions 0 to 7; so for hex with 0 to 11 and cubic with 0 to 47
---      WorkedExamples        each example, by its name
+--     WorkedExamples         each example, by its name
 use Rattle.std.specs.Prelude.{◌≡◌, ℕ, List, [], ◌∷◌, take, pos, Some, Ok, Err, Result}
 use Rattle.std.specs.List.{range_with_len}
 use Rattle.lattice.specs.declared.cell.Cell.{Cell}

@@ -1,4 +1,4 @@
--- Cells: when two are the same, and their order.
+-- Proofs that cells are the same where their coordinates are, and are totally ordered. They define nothing that a contract means.
 use Rattle.std.specs.Prelude.{◌≡◌, ℕ, Bool, true, false, ◌&&◌, T, ℤ, pos, neg_ℤ, ◌≤ℤ◌, int_le, int_lt}
 use Rattle.std.proofs.Common.{arith}
 use Rattle.std.specs.Int.Signed.{le_z_yes}

@@ -1,5 +1,5 @@
 // Sets of motion numbers.
-ghost use Rattle.std.specs.Prelude.{◌≡◌, ltb, [], ◌∷◌, length, if◌then◌else◌, Decides, nat_lt};
+ghost use Rattle.std.specs.Prelude.{◌≡◌, [], ◌∷◌, length, if◌then◌else◌, Decides, nat_lt};
 ghost use Rattle.ordered.specs.Members.{In};
 ghost use Rattle.ordered.specs.Lookups.{inserted};
 ghost use Rattle.lattice.specs.Kinds.{set_motions};
@@ -43,7 +43,7 @@ impl MotionSet {
     // One motion more, if its number is at most 47; tells whether the set has it now.
     pub fn insert(&mut self, motion: u8) -> bool
         ensures value { result ≡ nat_lt motion 48 }
-        ensures after { set_motions self.new ≡ (if ltb motion 48 then inserted ltb motion (set_motions self.old) else set_motions self.old) }
+        ensures after { set_motions self.new ≡ (if nat_lt motion 48 then inserted nat_lt motion (set_motions self.old) else set_motions self.old) }
     {
         if motion >= 48 {
             return false;

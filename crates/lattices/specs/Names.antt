@@ -1,7 +1,7 @@
 -- Lattices by name. Assumes nothing.
 --     named_lattice bs      the lattice whose name is bs, or the refusal 3
 --     name_line bs          the bytes of bs before its first byte 10, or the refusal 9 if there are none, more than 9, or no byte 10
-use Rattle.std.specs.Prelude.{ℕ, Bool, cond, not, ◌&&◌, ltb, List, length, take, Ok, Err, Result, ◌==◌, nat_le, nat_lt}
+use Rattle.std.specs.Prelude.{ℕ, Bool, cond, not, ◌&&◌, List, length, take, Ok, Err, Result, ◌==◌, nat_le, nat_lt}
 use Rattle.std.specs.Ordering.{is_eq}
 use Rattle.std.specs.List.{prefix_len}
 use Rattle.ordered.specs.Orders.{comparison}
@@ -12,7 +12,7 @@ use Rattle.lattices.specs.Hex.{hex_name}
 use Rattle.lattices.specs.Cubic.{cubic_name}
 
 abbrev pub same_bytes : List ℕ → List ℕ → Bool
-same_bytes xs ys = is_eq (comparison ltb xs ys)
+same_bytes xs ys = is_eq (comparison nat_lt xs ys)
 
 abbrev pub named_lattice : List ℕ → Result Known ℕ
 named_lattice bs =

@@ -1,6 +1,6 @@
 -- Classes of the connected shapes of one size, under the motions of an opening. Assumes nothing.
 --     Belongs o s        s is a connected shape of the size
---      InClass o s t     t is in the class of s: its image under one motion of the set, in normal position
+--     InClass o s t      t is in the class of s: its image under one motion of the set, in normal position
 --     Least o s          no member of the class of s is less than s
 --     exact o s          s as an entry, with its exact stabiliser and orbit size
 --     picks o s          the picks of the walk of s: its pick list, if it is connected

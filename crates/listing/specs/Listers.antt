@@ -2,9 +2,9 @@
 --     listed_by motions s               the opening whose list it goes through: the directions and the size of its search, and the motions of its set
 --     stands_of motions s               behind are the entries of the pick lists that its search has found, ahead those of the ones still to find
 --     last_picks o es                   the pick list of the last of the entries es; empty if there is none
---      LastRight motions s              it holds the pick list of the last entry behind
+--     LastRight motions s               it holds the pick list of the last entry behind
 --     Kept motions s t                  from s to t the lattice, the set, and the directions and size of the search have stayed
---      OpenedBy directions motions s o  it was opened by o: the search has the directions of its lattice, and the set is closed
+--     OpenedBy directions motions s o   it was opened by o: the search has the directions of its lattice, and the set is closed
 use Rattle.std.specs.Prelude.{◌≡◌, ℕ, List, [], fold}
 use Rattle.lattice.specs.declared.cell.Cell.{Cell}
 use Rattle.lattice.specs.Kinds.{Closed, set_motions}

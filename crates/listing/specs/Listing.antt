@@ -1,8 +1,8 @@
 -- The list of all classes of an opening, by its properties. Assumes nothing.
---      RightEntry o e      e is the least member of a class of connected shapes of the size, with its exact stabiliser and orbit size
+--     RightEntry o e       e is the least member of a class of connected shapes of the size, with its exact stabiliser and orbit size
 --     by_picks o d e       the pick list of d comes before that of e
 --     Lists o es           es has right entries and no others, a class for every connected shape of the size, ascending by pick list
---      TheList o es        es lists so; no other list does; no class comes twice; its classes hold the connected shapes of the size and no others
+--     TheList o es         es lists so; no other list does; no class comes twice; its classes hold the connected shapes of the size and no others
 use Rattle.std.specs.Prelude.{◌≡◌, Bool, ◌↔◌, List, nat_lt}
 use Rattle.ordered.specs.Members.{In}
 use Rattle.ordered.specs.Orders.{Ascending, list_less}

@@ -1,15 +1,15 @@
 -- Laws over whole runs: calls and their answers, and nothing else. Assumes nothing.
 --     handed as                     the entries that the answers as handed out, in turn
---      RefusedBy n a                the answer a is the refusal with the number n
---      NextRight list past a        after `past` was handed out of the list, a is the right answer to a next: the next entry of the list, or
+--     RefusedBy n a                 the answer a is the refusal with the number n
+--     NextRight list past a         after `past` was handed out of the list, a is the right answer to a next: the next entry of the list, or
 --                                   the refusal 6, and this exactly if the list is through
---      ToldRight o list past s a    a is the right answer to the question where the class of s is: foreign exactly if no class of the list holds
+--     ToldRight o list past s a     a is the right answer to the question where the class of s is: foreign exactly if no class of the list holds
 --                                   s, given exactly if its class was handed out, to come exactly if it is in the list and was not
 --     Right o list past c a         a is the right answer to the call c
 --     Each Good past cs as          each answer of as is good for its call of cs, after what was handed out before it; past was before all of them
---      RightRun Good list cs as     so it is from the beginning of the list on, and what was handed out is a beginning of the list at every moment
---      ListedRun o cs as            the run is right for the one list of all classes of the opening o
---      RightNexts list n as         as are the answers to n nexts, or to the first of them, from the beginning of the list on
+--     RightRun Good list cs as      so it is from the beginning of the list on, and what was handed out is a beginning of the list at every moment
+--     ListedRun o cs as             the run is right for the one list of all classes of the opening o
+--     RightNexts list n as          as are the answers to n nexts, or to the first of them, from the beginning of the list on
 --     Stopped x r                   r ends a run for which the opening gave x: refused exactly if the opening is, by its number
 use Rattle.std.specs.Prelude.{◌≡◌, ℕ, ◌↔◌, List, [], ◌∷◌, ◌++◌, take, replicate, Ok, Err, Result, ◌≢◌}
 use Rattle.lattice.specs.declared.cell.Cell.{Cell}

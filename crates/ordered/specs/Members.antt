@@ -1,6 +1,6 @@
 -- Lists as finite sets. Assumes nothing.
 --     In x xs           x is one of xs
---      NoRepeats xs     the items of xs are all different
+--     NoRepeats xs      the items of xs are all different
 use Rattle.std.specs.Prelude.{◌≡◌, ◌⊎◌, List, [], ◌∷◌}
 
 abbrev pub In : {X : Type 0} → X → List X → Type 0

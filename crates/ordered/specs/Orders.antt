@@ -1,5 +1,5 @@
 -- Total orders, given as a test of which of two items is less, and the lists that they order. Assumes nothing.
---      StrictTotal less          the test is a strict total order
+--     StrictTotal less           the test is a strict total order
 --     rank less x y              how x compares with y
 --     Ascending less xs          each item of xs is less than every later one
 --     comparison less xs ys      how the list xs compares with ys: the lesser item at the first difference decides,

@@ -1,5 +1,5 @@
 -- The number of classes in a list closed under the motions: times the motions, it is the shapes that each motion leaves as they are, summed.
---       OneOfEach gs act xs rs     rs has exactly one of each class in xs
+--     OneOfEach gs act xs rs       rs has exactly one of each class in xs
 use Rattle.std.proofs.Common.{◌≡◌, ℕ, ◌*◌, ◌<◌, ◌≤◌, Bool, cond, List, [], ◌∷◌, map, length, filter, sym, ◌∙◌, subst, le_antisymm, arith}
 use native.Mathlib.Nat.{eq_of_mul-eq-mul_left}
 use lib.ListN.{length-map}

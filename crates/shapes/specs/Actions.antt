@@ -7,9 +7,9 @@
 --     orbit less gs act x                  the different members of x, ascending
 --     orbit_size less gs act x             how many they are
 --     Equivalence Good gs act              being a member of is an equivalence
---      LeastLaws Good less gs act          the least of the members is one of them, none is less, and all members have the same
---      OrbitLaws Good less same gs act     the orbit holds the members; its size times the length of the stabiliser is the length of gs
---      ActionLaws good less same gs act    all three, of those that pass the test `good`
+--     LeastLaws Good less gs act           the least of the members is one of them, none is less, and all members have the same
+--     OrbitLaws Good less same gs act      the orbit holds the members; its size times the length of the stabiliser is the length of gs
+--     ActionLaws good less same gs act     all three, of those that pass the test `good`
 --     Actions X                            so it is wherever such a set acts, with a total order `less` and a test `same` of equality
 use Rattle.std.specs.Prelude.{◌≡◌, ℕ, ◌*◌, Bool, true, List, map, length, Decides, filter, ◌≢◌}
 use Rattle.std.specs.List.{best_of}

@@ -2,12 +2,12 @@
 --     same_cells s t           the test that s and t are the same list
 --     cells_less s t           s comes before t: the lesser cell at the first difference decides, and a beginning comes before the whole
 --     moved ms g s             the member of s under motion g: its image, in normal position
---      MemberOf ms gs s t      t is a member of s
+--     MemberOf ms gs s t       t is a member of s
 --     least_member ms gs s     the least of the members of s
 --     stabiliser_of ms gs s    the motions that leave s as it is
 --     orbit_of ms gs s         the different members of s, ascending
 --     orbit_size_of ms gs s    how many they are
---      ClassLaws ds ms gs      what holds of classes, with the directions ds
+--     ClassLaws ds ms gs       what holds of classes, with the directions ds
 use Rattle.std.specs.Prelude.{◌≡◌, ℕ, ◌*◌, Bool, true, List, map, length, ◌≢◌}
 use Rattle.std.specs.Ordering.{is_eq}
 use Rattle.ordered.specs.Members.{In}

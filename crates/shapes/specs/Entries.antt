@@ -1,5 +1,5 @@
 -- Entries: a least member with its stabiliser and its orbit size. Assumes nothing.
---      EntryValues                    the cells, the motions and the orbit size of an entry
+--     EntryValues                     the cells, the motions and the orbit size of an entry
 --     entry_values e                  those of the entry e
 --     entry_for ms gs s               the shape s with its stabiliser and its orbit size
 --     entry_if_connected ds ms gs s   the entry of the class of s under those of the motions gs that ms has, if s is connected

@@ -3,8 +3,8 @@
 --     neighbours ds x           the cells next to x, in the order of the directions ds
 --     shifted s                 s with its first cell taken away from each
 --     normal s                  s with its least cell taken away from each, listed ascending
---      NormalPosition s         s is ascending, and its first cell is there and is the origin
---      ShortOf n x              no coordinate of x reaches n in size
+--     NormalPosition s          s is ascending, and its first cell is there and is the origin
+--     ShortOf n x               no coordinate of x reaches n in size
 use Rattle.std.specs.Prelude.{◌≡◌, ℕ, ◌<◌, List, [], ◌∷◌, map, ◌+ℤ◌, ◌-ℤ◌, unsigned_abs}
 use Rattle.ordered.specs.Orders.{Ascending}
 use Rattle.ordered.specs.Lookups.{sorted}

@@ -1,5 +1,5 @@
 -- How long place lists get, and how far a walk goes, where no cell has more than m neighbours. Assumes nothing.
---      FewNear m g      no cell has more than m neighbours
+--     FewNear m g       no cell has more than m neighbours
 --     Bound m g         the bounds
 --     Bounds X          they hold in every neighbourhood of cells X
 use Rattle.std.specs.Prelude.{ℕ, ◌+◌, ◌-◌, ◌*◌, ◌<◌, ◌≤◌, List, length}

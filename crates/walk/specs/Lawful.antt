@@ -1,10 +1,10 @@
 -- Lawful pick lists: they start with 0 and ascend, and each place is on the place list by its turn. Assumes nothing.
---      InTurn g P i p            the picks p ascend from place i on, and each place is on the list by its turn, from the place list P on
---      LawfulFrom g n P i p      p is n such picks
+--     InTurn g P i p             the picks p ascend from place i on, and each place is on the list by its turn, from the place list P on
+--     LawfulFrom g n P i p       p is n such picks
 --     Lawful g n p               p is a lawful pick list of n picks
 --     Plain g n p                p has n picks, starts with 0 and ascends, and each place is on the place list of the picks before it
---      LawfulList g              to be lawful is to be plain; when one more pick is lawful; the cells picked keep their places
---      LawfulLists X             so it is in every neighbourhood of cells X
+--     LawfulList g               to be lawful is to be plain; when one more pick is lawful; the cells picked keep their places
+--     LawfulLists X              so it is in every neighbourhood of cells X
 use Rattle.std.specs.Prelude.{◌≡◌, ℕ, ◌+◌, ◌<◌, ◌≤◌, ◌↔◌, List, [], ◌∷◌, ◌++◌, map, length, take, nat_lt, slice_index, slice_index_or}
 use Rattle.ordered.specs.Members.{In}
 use Rattle.ordered.specs.Orders.{Ascending}

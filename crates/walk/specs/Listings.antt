@@ -3,9 +3,9 @@
 --     picks_from g n P i      all ways to make n more picks from the place list P, of places from i on
 --     all_picks g n           all lawful pick lists of n picks
 --     Listed g n P i          picks_from has just the lawful ones, ascending, and so each once
---      PicksListed X          so it is in every neighbourhood of cells X
+--     PicksListed X           so it is in every neighbourhood of cells X
 --     Enumerated g n ps       ps gives the connected sets of n cells, each once
---      PicksEnumerated X      all_picks does so in every neighbourhood of cells X
+--     PicksEnumerated X       all_picks does so in every neighbourhood of cells X
 use Rattle.std.specs.Prelude.{◌≡◌, ℕ, zero, suc, ◌+◌, ◌-◌, ◌≤◌, ◌↔◌, List, [], ◌∷◌, ◌++◌, map, length, nat_lt}
 use Rattle.ordered.specs.Members.{In, NoRepeats}
 use Rattle.ordered.specs.Orders.{Ascending, list_less}

@@ -2,7 +2,7 @@
 --     Neighbourhood X      an equality test, the neighbours of a cell in a fixed order, which cells are above the start, and the start
 --     on g xs x            the test that x is one of xs
 --     Rooted g S           the cells of S are all different, the start is one of them, and the others are above it
---      SameItems xs ys     the two lists have the same items
+--     SameItems xs ys      the two lists have the same items
 --     Begins xs ys         ys is xs with more at its end, or with no more
 use Rattle.std.specs.Prelude.{◌≡◌, Bool, true, false, ◌||◌, ◌⊎◌, ◌↔◌, List, [], ◌∷◌, ◌++◌}
 use Rattle.ordered.specs.Members.{In, NoRepeats}

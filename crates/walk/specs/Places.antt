@@ -10,8 +10,8 @@
 --     first_places g          the place list of no picks
 --     places_of g p           the place list after the picks p
 --     cells_of g p            the cells picked
---     PlaceListLaws g            no place list repeats a cell, and it only grows at its end
---     PlaceListsLawful X           so it is in every neighbourhood of cells X
+--     PlaceListLaws g         no place list repeats a cell, and it only grows at its end
+--     PlaceListsLawful X      so it is in every neighbourhood of cells X
 use Rattle.std.specs.Prelude.{◌≡◌, ℕ, cond, not, ◌&&◌, List, [], ◌∷◌, ◌++◌, length, take, filter, slice_index_or}
 use Rattle.ordered.specs.Members.{NoRepeats}
 use Rattle.walk.specs.Neighbourhoods.{Neighbourhood, on, Begins}
