@@ -24,7 +24,7 @@ OTHERS = {
     "line-length": "length_of_line",
     "total-sumBy": "total_sum_by",
 }
-OLD_WORDS = {"getD": "get_or", "kept-by": "filter", "counting": "counting"}
+OLD_WORDS = {"getD": "get_or", "kept-by": "filter"}
 
 NAME = re.compile(r"[^\s(){}\[\].;,@\"«»|`:]+")
 DECLARED = re.compile(
@@ -32,8 +32,10 @@ DECLARED = re.compile(
     r"|^\s*(?:(?:pub|abbrev|unfoldable|record|data|ruleset|opaque)\s+)+([^\s(){}:;,.]+)"
     r"|\blet ([^\s(){}:;,.λ]+) (?::|=)"
 )
-# The heads behind which a name is one that Rattle made.
-MADE = {"c", "w", "l", "g", "goal", "Goals", "Given"}
+# A head behind which a name is one that Rattle made.
+MADE = re.compile(r"(?<![^\s(){}\[\];,@\"«»|`])(?:c|w|l|g|goal|Goals|Given)\.$")
+# How the names of goals begin that an answers file declares.
+GOALS = ("loop-", "returns-", "invariant", "decreases")
 
 
 def files(root, endings):
@@ -46,11 +48,6 @@ def files(root, endings):
 
 def is_answers(path):
     return os.path.basename(path) in ("Answers.antt", "Invariants.antt", "Proof.antt")
-
-
-def is_made(name, line):
-    """Whether a name declared in an answers file is a goal's."""
-    return bool(re.match(rf"\s*(abbrev )?pub {re.escape(name)} : goal\.", line))
 
 
 def respelled(name):
@@ -75,10 +72,10 @@ def declared(root):
                 name = m[1] or m[2] or m[3]
                 if not re.fullmatch(r"[A-Za-z][A-Za-z0-9_']*(-[A-Za-z0-9_']+)+|\w+getD", name):
                     continue
-                if answers and (is_made(name, line) or "goal." in line or name.startswith(("loop-", "returns-", "invariant", "decreases"))):
+                # an answer names its goal on its own line or on the next
+                if answers and ("goal." in line or name.startswith(GOALS)):
                     continue
-                # an answer whose goal stands on the next line
-                if answers and not line.startswith(" ") and " : " in line and "goal." in (lines[i + 1] if i + 1 < len(lines) else ""):
+                if answers and re.match(r"\S.* : ", line) and "goal." in lines[i + 1]:
                     continue
                 found[name] = respelled(name)
     for path in files(os.path.join(root, "crates"), (".antt", ".rt")):
@@ -93,12 +90,8 @@ def turn(text, table, keep_made):
         name = m[0]
         if name not in table:
             return name
-        before = text[: m.start()]
-        if before.endswith(".") and keep_made:
-            head = re.search(r"([^\s(){}\[\];,@\"«»|`]*)\.$", before)
-            first = head[1].split(".")[0] if head else ""
-            if first in MADE and head[1].count(".") == 0:
-                return name
+        if keep_made and MADE.search(text[max(0, m.start() - 16) : m.start()]):
+            return name
         return table[name]
 
     return NAME.sub(one, text)

@@ -1,4 +1,5 @@
--- Proofs that cells are the same where their coordinates are, and are totally ordered. They define nothing that a contract means.
+-- Proofs that cells are the same where their coordinates are, that they are totally ordered, and what the test `within` says.
+-- They define nothing that a contract means.
 use Rattle.std.specs.Prelude.{◌≡◌, ℕ, Bool, true, false, ◌&&◌, T, ℤ, pos, neg_ℤ, ◌≤ℤ◌, int_le, int_lt}
 use Rattle.std.proofs.Common.{arith}
 use Rattle.std.specs.Int.Signed.{le_z_yes}

@@ -26,7 +26,7 @@ no_repeats_map f (x ∷ xs) h inj = (
   no_repeats_map f xs h.1 (λ a b p q. inj a b (inr p) (inr q)),
 )
 
--- ---- kept-by
+-- ---- filter
 pub in_kept : {X : Type 0} (p : X → Bool) (xs : List X) (x : X) → In x xs → p x ≡ true → In x (filter p xs)
 in_kept p [] x h k = absurd h
 in_kept p (y ∷ ys) x h k = go (p y) refl h (λ q. in_kept p ys x q k)
