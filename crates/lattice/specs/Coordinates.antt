@@ -1,12 +1,13 @@
 -- Proofs that cells are the same where their coordinates are, that they are totally ordered, and what the test `within` says.
 -- They define nothing that a contract means.
 use Rattle.std.specs.Prelude.{◌≡◌, ℕ, Bool, true, false, ◌&&◌, T, ℤ, pos, neg_ℤ, ◌≤ℤ◌, int_le, int_lt}
-use Rattle.std.proofs.Common.{arith}
+use Rattle.std.proofs.Common.{Ordering, Less, Equal, Greater, refl, sym, ap, ◌∙◌, arith}
 use Rattle.std.specs.Int.Signed.{le_z_yes}
 use Rattle.std.proofs.lemmas.Int.{ints}
 use Rattle.std.proofs.lemmas.Bool.{and_parts, false≢true}
-use Rattle.ordered.specs.Orders.{StrictTotal}
-use Rattle.ordered.proofs.Orders.{list_order}
+use Rattle.std.specs.Ordering.{int_cmp, on, ordering_then, then_cmp}
+use Rattle.ordered.specs.Orders.{StrictTotal, rank}
+use Rattle.ordered.proofs.Orders.{list_order, rank_list}
 use Rattle.lattice.specs.declared.cell.Cell.{Cell}
 use Rattle.lattice.specs.Cells.{coordinates, cell_less, Within, from_to, within}
 
@@ -31,6 +32,17 @@ cell_order =
       transitive = λ x y z. lists.transitive (coordinates x) (coordinates y) (coordinates z);
       trichotomous = λ x y h k. coordinates_same x y (lists.trichotomous (coordinates x) (coordinates y) h k);
     }
+
+-- the comparison by the coordinates in turn is the rank in this order
+pub cell_ranked : (x y : Cell) → then_cmp (on (λ z. z.c) int_cmp) (then_cmp (on (λ z. z.b) int_cmp) (on (λ z. z.a) int_cmp)) x y ≡ rank cell_less x y
+cell_ranked x y =
+    ap (λ o. ordering_then (int_cmp x.c y.c) (ordering_then (int_cmp x.b y.b) o)) (sym (to_the_end (int_cmp x.a y.a)))
+    ∙ rank_list int_lt whole_order (coordinates x) (coordinates y)
+  where
+    to_the_end : (o : Ordering) → ordering_then o Equal ≡ o
+    to_the_end Less = refl
+    to_the_end Equal = refl
+    to_the_end Greater = refl
 
 -- ---- within bounds
 true_T : (b : Bool) → b ≡ true → T b

@@ -65,4 +65,4 @@ pub record Closed (ms : List Matrix) (gs : List ℕ) : Type 0 where
   pub after : (g h : ℕ) → In g gs → In h gs → In (number_after ms g h) gs
 
 abbrev pub set_motions : MotionSet → List ℕ
-set_motions s = take s.count s.motions
+set_motions s = s.motions

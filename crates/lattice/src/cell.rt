@@ -1,5 +1,5 @@
 // A cell of a lattice.
-#[derive(Clone, Copy, PartialEq, Eq, Debug)]
+#[derive(Clone, Copy, PartialEq, Eq, Debug, Default)]
 pub struct Cell {
     pub a: i8,
     pub b: i8,

@@ -1,33 +1,67 @@
 // Cells in their order, and how far they reach.
 ghost use Rattle.std.specs.Prelude.{◌≡◌};
-ghost use Rattle.lattice.specs.Cells.{cell_less, from_to, in_reach};
-ghost use Rattle.lattice.specs.Coordinates.{cell_order};
+ghost use Rattle.std.specs.Cmp.{partial_order_from_own_ties};
+ghost use Rattle.std.specs.Cmp.Rules.{comparing};
+ghost use Rattle.std.specs.Ordering.{as_partial_cmp, int_cmp, on, then_cmp};
+ghost use Rattle.std.proofs.Common.{rules};
+ghost use Rattle.lattice.specs.Cells.{origin, cell_less, from_to, in_reach};
+ghost use Rattle.lattice.specs.Coordinates.{cell_order, cell_ranked};
 
 use crate::cell::Cell;
+use ordered::filler::Filler;
 use ordered::order::TotalOrder;
 use std::cmp::Ordering;
 
 // How far from 0 a coordinate may be for a lattice to answer.
-const REACH: i8 = 15;
+const REACH: i16 = 15;
 
-fn is_near(coordinate: i8) -> bool
+// Whether a coordinate is in reach. It may be wider than a cell's.
+pub fn is_near(coordinate: i16) -> bool
     ensures { result ≡ from_to 15 coordinate }
 {
     -REACH <= coordinate && coordinate <= REACH
 }
 
-// By c, then b, then a.
-impl TotalOrder for Cell {
-    ghost less = { cell_less };
+// By c, then b, then a. A derive would begin with a, since cells are written (a, b, c).
+impl Ord for Cell {
+    ghost cmp = { then_cmp (on (λ x. x.c) int_cmp) (then_cmp (on (λ x. x.b) int_cmp) (on (λ x. x.a) int_cmp)) };
 
-    ghost total = { cell_order };
+    ghost total = { Prim.search (comparing, rules) };
 
-    fn order(&self, other: &Cell) -> Ordering {
+    ghost matches_partial_cmp = { Prim.search (comparing, rules) };
+
+    ghost matches_eq = { Prim.search (comparing, rules) };
+
+    fn cmp(&self, other: &Cell) -> Ordering {
         self.c
             .cmp(&other.c)
             .then(self.b.cmp(&other.b))
             .then(self.a.cmp(&other.a))
     }
+}
+
+impl PartialOrd for Cell {
+    ghost partial_cmp = { as_partial_cmp (then_cmp (on (λ x. x.c) int_cmp) (then_cmp (on (λ x. x.b) int_cmp) (on (λ x. x.a) int_cmp))) };
+
+    ghost laws = { partial_order_from_own_ties (Prim.search (comparing, rules)) (Prim.search (comparing, rules)) };
+
+    fn partial_cmp(&self, other: &Cell) -> Option<Ordering> {
+        Some(self.cmp(other))
+    }
+}
+
+impl TotalOrder for Cell {
+    ghost less = { cell_less };
+
+    ghost total = { cell_order };
+
+    ghost ranked = { cell_ranked };
+}
+
+impl Filler for Cell {
+    ghost blank = { origin };
+
+    ghost by_default = { Prim.search rules };
 }
 
 impl Cell {
@@ -37,6 +71,6 @@ impl Cell {
     pub fn is_in_reach(self) -> bool
         ensures { result ≡ in_reach self }
     {
-        is_near(self.a) && is_near(self.b) && is_near(self.c)
+        is_near(i16::from(self.a)) && is_near(i16::from(self.b)) && is_near(i16::from(self.c))
     }
 }

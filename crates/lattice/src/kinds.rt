@@ -9,22 +9,28 @@ use crate::lattice::Lattice;
 use crate::motion_set::MotionSet;
 use crate::refusal::Refusal;
 use ordered::compare::compare;
+use std::fmt;
+use std::fmt::Display;
 
-impl Kind {
-    pub fn number(self) -> u8
-        ensures { result ≡ kind_number self }
-    {
-        match self {
+impl From<Kind> for u8 {
+    ghost from_gives = { λ k n. n ≡ kind_number k };
+
+    fn from(kind: Kind) -> u8 {
+        match kind {
             Kind::Fixed => 0,
             Kind::OneSided => 1,
             Kind::Free => 2,
         }
     }
+}
 
-    // The kind with this number; refused by 2 if there is none.
-    pub fn numbered(number: u8) -> Result<Kind, Refusal>
-        ensures { answer (λ k. k) result ≡ numbered_kind number }
-    {
+// The kind with this number; refused by 2 if there is none.
+impl TryFrom<u8> for Kind {
+    type Error = Refusal;
+
+    ghost try_from_gives = { λ n r. answer (λ k. k) r ≡ numbered_kind n };
+
+    fn try_from(number: u8) -> Result<Kind, Refusal> {
         match number {
             0 => Ok(Kind::Fixed),
             1 => Ok(Kind::OneSided),
@@ -32,7 +38,15 @@ impl Kind {
             _ => Err(Refusal::Kind),
         }
     }
+}
 
+impl Display for Kind {
+    fn fmt<W: fmt::Write>(&self, f: &mut fmt::Formatter<W>) -> fmt::Result {
+        f.write_str(self.word())
+    }
+}
+
+impl Kind {
     // The word for the kind.
     pub fn word(self) -> &'static str
         ensures { result.now ≡ kind_name self }
@@ -44,7 +58,7 @@ impl Kind {
         }
     }
 
-    // The kind with this word; refused by 2 if there is none.
+    // The kind with this word; refused by 2 if there is none. (`FromStr` would ask for a text, and a line is bytes.)
     pub fn named(word: &[u8]) -> Result<Kind, Refusal>
         ensures { answer (λ k. k) result ≡ named_kind word.now }
     {
@@ -77,7 +91,7 @@ pub fn motions_of_kind<L: Lattice>(lattice: &L, kind: u8) -> Result<MotionSet, R
     ensures value { answer set_motions result ≡ numbered_motions (L.motions lattice.now) (L.onesided lattice.now) kind }
     ensures closed { (s : MotionSet) → result ≡ Ok s → Closed (L.motions lattice.now) (set_motions s) }
 {
-    let kind = Kind::numbered(kind)?;
+    let kind = Kind::try_from(kind)?;
     let mut set = MotionSet::identity();
     for motion in 1..lattice.motion_count() {
         if kind.uses(lattice, motion) {

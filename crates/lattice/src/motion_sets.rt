@@ -5,18 +5,17 @@ ghost use Rattle.ordered.specs.Lookups.{inserted};
 ghost use Rattle.lattice.specs.Kinds.{set_motions};
 
 use crate::motion_set::MotionSet;
-use ordered::find::{Lookup, find};
-use ordered::insert::{Insertion, insert};
+use ordered::array_list::ArrayList;
+use ordered::find::find;
 
 impl MotionSet {
     // Motion 0 alone.
     pub fn identity() -> MotionSet
         ensures { set_motions result ≡ 0 ∷ [] }
     {
-        MotionSet {
-            motions: [0; 48],
-            count: 1,
-        }
+        let mut motions = ArrayList::new();
+        motions.push(0).unwrap();
+        MotionSet { motions }
     }
 
     pub fn len(&self) -> usize
@@ -28,16 +27,13 @@ impl MotionSet {
     pub fn as_slice(&self) -> &[u8]
         ensures { result.now ≡ set_motions self.now }
     {
-        &self.motions[0..self.count]
+        self.motions.as_slice()
     }
 
     pub fn contains(&self, motion: u8) -> bool
         ensures { Decides result (In motion (set_motions self.now)) }
     {
-        match find(self.as_slice(), &motion) {
-            Lookup::Found(_) => true,
-            Lookup::Absent(_) => false,
-        }
+        find(self.as_slice(), &motion).is_ok()
     }
 
     // One motion more, if its number is at most 47; tells whether the set has it now.
@@ -48,17 +44,8 @@ impl MotionSet {
         if motion >= 48 {
             return false;
         }
-        let mut motions = self.motions;
-        match insert(&mut motions, self.count, motion) {
-            Insertion::Placed(_) => {
-                *self = MotionSet {
-                    motions,
-                    count: self.count + 1,
-                };
-            }
-            Insertion::Present(_) => {}
-            Insertion::Full => {}
-        }
+        // It may be there, and there is always room.
+        let _ = self.motions.insert(motion);
         true
     }
 }

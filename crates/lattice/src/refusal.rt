@@ -27,11 +27,11 @@ pub enum Refusal {
     Content,
 }
 
-impl Refusal {
-    pub fn number(self) -> u8
-        ensures { result ≡ refusal_number self }
-    {
-        match self {
+impl From<Refusal> for u8 {
+    ghost from_gives = { λ e n. n ≡ refusal_number e };
+
+    fn from(refusal: Refusal) -> u8 {
+        match refusal {
             Refusal::Size => 1,
             Refusal::Kind => 2,
             Refusal::Name => 3,

@@ -1,8 +1,6 @@
 -- Ascending lists: what keeps one ascending, when two are one, and what a lookup in one says.
-use Rattle.std.proofs.Common.{◌≡◌, ℕ, suc, ◌+◌, ◌<◌, Bool, true, false, cond, List, [], ◌∷◌, map, length, get_or, filter, sym, refl, ap, ◌∙◌, subst, inl, inr, arith}
+use Rattle.std.proofs.Common.{◌≡◌, ℕ, suc, ◌+◌, ◌<◌, Bool, true, false, cond, List, [], ◌∷◌, map, length, get_or, filter, sym, refl, ap, ◌∙◌, subst, inl, inr, arith, Ok, Err, Result, is_ok, Decides}
 use Rattle.std.proofs.lemmas.Bool.{true≢false}
-use Rattle.ordered.specs.declared.find.Lookup.{Lookup}
-use Rattle.ordered.specs.declared.find.Lookup.TheVariants.{Found, Absent}
 use Rattle.ordered.specs.Members.{In, NoRepeats}
 use Rattle.ordered.specs.Orders.{StrictTotal, Ascending}
 use Rattle.ordered.specs.Lookups.{further, lookup, inserted}
@@ -98,32 +96,40 @@ module _ {X : Type 0} (less : X → X → Bool) (O : StrictTotal less) where
       go (inr (inr c)) r = rw (c.1, c.0) a
 
   -- ---- lookup
-  pub found_get_or : (x : X) (xs : List X) (k : ℕ) → lookup less x xs ≡ Found k → (k < length xs) × ((d : X) → get_or xs k d ≡ x)
+  pub found_get_or : (x : X) (xs : List X) (k : ℕ) → lookup less x xs ≡ Ok k → (k < length xs) × ((d : X) → get_or xs k d ≡ x)
   found_get_or x [] k h = let z : true ≡ false = cc in absurd (true≢false z)
   found_get_or x (y ∷ ys) k h = go (three less O x y) (found_get_or x ys)
     where
       Here : ℕ → Type 0
       Here n = (n < suc (length ys)) × ((d : X) → get_or (y ∷ ys) n d ≡ x)
 
-      go : Three less x y → ((j : ℕ) → lookup less x ys ≡ Found j → (j < length ys) × ((d : X) → get_or ys j d ≡ x)) → Here k
-      go (inl c) r = let e : Absent 0 ≡ Found k = rw (c.1, c.0) at h in let z : true ≡ false = cc in absurd (true≢false z)
+      go : Three less x y → ((j : ℕ) → lookup less x ys ≡ Ok j → (j < length ys) × ((d : X) → get_or ys j d ≡ x)) → Here k
+      go (inl c) r = let e : Err 0 ≡ Ok k = rw (c.1, c.0) at h in let z : true ≡ false = cc in absurd (true≢false z)
       go (inr (inl c)) r = let f = further_found (lookup less x ys) k (rw c.1 at h) in let t = r f.0 f.1 in subst Here (sym f.2) (omega (arith, t.0), t.1)
-      go (inr (inr c)) r = let e : Found 0 ≡ Found k = rw (c.1, c.0) at h in let z : 0 ≡ k = cc in subst Here z (omega arith, λ d. sym c.2)
+      go (inr (inr c)) r = let e : Ok 0 ≡ Ok k = rw (c.1, c.0) at h in let z : 0 ≡ k = cc in subst Here z (omega arith, λ d. sym c.2)
 
-  pub found_in : (x : X) (xs : List X) (k : ℕ) → lookup less x xs ≡ Found k → In x xs
+  pub found_in : (x : X) (xs : List X) (k : ℕ) → lookup less x xs ≡ Ok k → In x xs
   found_in x xs k h = let t = found_get_or x xs k h in in_cast xs (t.1 x) (in_get_or xs k x t.0)
 
-  pub in_found : (x : X) (xs : List X) → Ascending less xs → In x xs → (k : ℕ) × (lookup less x xs ≡ Found k)
+  pub in_found : (x : X) (xs : List X) → Ascending less xs → In x xs → (k : ℕ) × (lookup less x xs ≡ Ok k)
   in_found x [] a h = absurd h
   in_found x (y ∷ ys) a (inl e) = go (three less O x y)
     where
-      go : Three less x y → (k : ℕ) × (lookup less x (y ∷ ys) ≡ Found k)
+      go : Three less x y → (k : ℕ) × (lookup less x (y ∷ ys) ≡ Ok k)
       go (inl c) = absurd (O.irreflexive y (subst (λ (w : X). less w y ≡ true) e c.0))
       go (inr (inl c)) = absurd (O.irreflexive y (subst (λ (w : X). less y w ≡ true) e c.1))
       go (inr (inr c)) = (0, rw (c.1, c.0))
   in_found x (y ∷ ys) a (inr h) = let t = in_found x ys a.1 h in (suc t.0, rw (a.0 x h) (ap further t.1))
 
-  pub absent_out : (x : X) (xs : List X) (k : ℕ) → Ascending less xs → lookup less x xs ≡ Absent k → In x xs → ⊥
+  -- a lookup tells whether an ascending list has an item
+  pub lookup_decides : (x : X) (xs : List X) → Ascending less xs → Decides (is_ok (lookup less x xs)) (In x xs)
+  lookup_decides x xs a = (to (lookup less x xs) refl, λ h. ap is_ok (in_found x xs a h).1)
+    where
+      to : (r : Result ℕ ℕ) → lookup less x xs ≡ r → is_ok (lookup less x xs) ≡ true → In x xs
+      to (Ok k) e h = found_in x xs k e
+      to (Err k) e h = absurd (true≢false (sym h ∙ ap is_ok e))
+
+  pub absent_out : (x : X) (xs : List X) (k : ℕ) → Ascending less xs → lookup less x xs ≡ Err k → In x xs → ⊥
   absent_out x xs k a h q = let t = in_found x xs a q in let e = t.1 in let z : true ≡ false = cc in true≢false z
 
   pub inserted_present : (x : X) (xs : List X) → Ascending less xs → In x xs → inserted less x xs ≡ xs
@@ -132,6 +138,6 @@ module _ {X : Type 0} (less : X → X → Bool) (O : StrictTotal less) where
   pub length_inserted : (x : X) (xs : List X) → (In x xs → ⊥) → length (inserted less x xs) ≡ length xs + 1
   length_inserted x xs n = go (lookup less x xs) refl
     where
-      go : (r : Lookup) → lookup less x xs ≡ r → length (inserted less x xs) ≡ length xs + 1
-      go (Found k) e = absurd (n (found_in x xs k e))
-      go (Absent k) e = length_inserted_absent less x xs k e
+      go : (r : Result ℕ ℕ) → lookup less x xs ≡ r → length (inserted less x xs) ≡ length xs + 1
+      go (Ok k) e = absurd (n (found_in x xs k e))
+      go (Err k) e = length_inserted_absent less x xs k e

@@ -4,6 +4,7 @@ pub mod Orders
 pub mod Lookups
 pub mod Ascending
 pub mod Slots
+pub mod Rooms
 pub mod Counted
 pub mod Kept
 pub mod Sorted

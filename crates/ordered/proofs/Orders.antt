@@ -148,6 +148,28 @@ module _ {X : Type 0} (less : X → X → Bool) (O : StrictTotal less) where
   pub comparison_equality : Equality (λ (xs ys : List X). is_eq (comparison less xs ys))
   comparison_equality xs ys = (λ e. same_comparison xs ys (is_equal (comparison less xs ys) e), λ e. ap is_eq (equal_comparison xs ys e))
 
+-- lists compare as their order ranks them
+pub rank_list : {X : Type 0} (less : X → X → Bool) → StrictTotal less → (xs ys : List X) → comparison less xs ys ≡ rank (list_less less) xs ys
+rank_list {X} less O xs ys = go (three (list_less less) order xs ys)
+  where
+    order : StrictTotal (list_less less)
+    order = list_order less O
+
+    greater : (o : Ordering) → comparison less xs ys ≡ o → list_less less xs ys ≡ false → list_less less ys xs ≡ true → comparison less xs ys ≡ Greater
+    greater Less e p q = absurd (true≢false (sym (ap is_lt e) ∙ p))
+    greater Equal e p q = absurd (order.irreflexive ys (subst (λ (l : List X). list_less less ys l ≡ true) (same_comparison less O xs ys e) q))
+    greater Greater e p q = e
+
+    lesser : (o : Ordering) → is_lt o ≡ true → o ≡ Less
+    lesser Less e = refl
+    lesser Equal e = absurd (true≢false (sym e))
+    lesser Greater e = absurd (true≢false (sym e))
+
+    go : Three (list_less less) xs ys → comparison less xs ys ≡ rank (list_less less) xs ys
+    go (inl c) = lesser (comparison less xs ys) c.0 ∙ sym (less_rank (list_less less) xs ys c.0)
+    go (inr (inl c)) = greater (comparison less xs ys) refl c.0 c.1 ∙ sym (greater_rank (list_less less) order xs ys c.1)
+    go (inr (inr c)) = equal_comparison less O xs ys c.2 ∙ sym (equal_rank (list_less less) order xs ys c.2)
+
 -- ---- numbers
 pub number_order : StrictTotal ltb
 number_order = record {

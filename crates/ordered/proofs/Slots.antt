@@ -1,41 +1,39 @@
 -- What an insertion into the first slots leaves, by its answer.
-use Rattle.std.proofs.Common.{◌≡◌, ℕ, ◌+◌, ◌<◌, ◌≤◌, Bool, true, false, ltb, List, length, take, drop, sym, refl, ap, ◌∙◌, arith, length-take}
+use Rattle.std.proofs.Common.{◌≡◌, ℕ, ◌+◌, ◌<◌, ◌≤◌, Bool, true, false, ltb, List, length, take, drop, sym, refl, ap, ◌∙◌, arith, length-take, length-drop, length-append, Ok, Err, Result}
 use lib.Seq.{take-append_seam, drop-append_seam}
-use Rattle.std.proofs.lemmas.Bool.{ltb-true, ltb-false}
-use Rattle.ordered.specs.declared.find.Lookup.{Lookup}
-use Rattle.ordered.specs.declared.find.Lookup.TheVariants.{Found, Absent}
-use Rattle.ordered.specs.declared.insert.Insertion.TheVariants.{Placed, Present, Full}
-use Rattle.ordered.specs.Lookups.{lookup, inserted, answered, insertion, over}
+use Rattle.std.proofs.lemmas.Bool.{ltb-true, ltb-false, lt-ltb}
+use Rattle.ordered.specs.declared.insert.NotInserted.TheVariants.{Present, Full}
+use Rattle.ordered.specs.Lookups.{lookup, inserted, answered, insertion, insertion_at, after_insertion, over}
 use Rattle.ordered.proofs.Lookups.{inserted_found, length_inserted_absent}
 
 -- what each answer tells of the lookup and of the room
-placed_from : (room : Bool) (r : Lookup) (k : ℕ) → Placed k ≡ answered room r → (r ≡ Absent k) × (room ≡ true)
-placed_from room (Found j) k e = (cc, cc)
-placed_from true (Absent j) k e = (cc, refl)
-placed_from false (Absent j) k e = (cc, cc)
+placed_from : (room : Bool) (r : Result ℕ ℕ) (k : ℕ) → Ok k ≡ answered room r → (r ≡ Err k) × (room ≡ true)
+placed_from room (Ok j) k e = (cc, cc)
+placed_from true (Err j) k e = (cc, refl)
+placed_from false (Err j) k e = (cc, cc)
 
-present_from : (room : Bool) (r : Lookup) (k : ℕ) → Present k ≡ answered room r → r ≡ Found k
-present_from room (Found j) k e = cc
-present_from true (Absent j) k e = cc
-present_from false (Absent j) k e = cc
+present_from : (room : Bool) (r : Result ℕ ℕ) (k : ℕ) → Err (Present k) ≡ answered room r → r ≡ Ok k
+present_from room (Ok j) k e = cc
+present_from true (Err j) k e = cc
+present_from false (Err j) k e = cc
 
-full_from : (room : Bool) (r : Lookup) → Full ≡ answered room r → (room ≡ false) × ((k : ℕ) × (r ≡ Absent k))
-full_from room (Found j) e = (cc, (0, cc))
-full_from true (Absent j) e = (cc, (j, refl))
-full_from false (Absent j) e = (refl, (j, refl))
+full_from : (room : Bool) (r : Result ℕ ℕ) → Err Full ≡ answered room r → (room ≡ false) × ((k : ℕ) × (r ≡ Err k))
+full_from room (Ok j) e = (cc, (0, cc))
+full_from true (Err j) e = (cc, (j, refl))
+full_from false (Err j) e = (refl, (j, refl))
 
 module _ {X : Type 0} (less : X → X → Bool) (x : X) (n : ℕ) (slots : List X) where
-  pub present_same : (k : ℕ) → Present k ≡ insertion less x n slots → inserted less x (take n slots) ≡ take n slots
+  pub present_same : (k : ℕ) → Err (Present k) ≡ insertion less x n slots → inserted less x (take n slots) ≡ take n slots
   present_same k e = inserted_found less x (take n slots) k (present_from (ltb n (length slots)) (lookup less x (take n slots)) k e)
 
-  pub full_room : Full ≡ insertion less x n slots → length slots ≤ n
+  pub full_room : Err Full ≡ insertion less x n slots → length slots ≤ n
   full_room e = ltb-false n (length slots) (full_from (ltb n (length slots)) (lookup less x (take n slots)) e).0
 
-  pub full_absent : Full ≡ insertion less x n slots → (k : ℕ) × (lookup less x (take n slots) ≡ Absent k)
+  pub full_absent : Err Full ≡ insertion less x n slots → (k : ℕ) × (lookup less x (take n slots) ≡ Err k)
   full_absent e = (full_from (ltb n (length slots)) (lookup less x (take n slots)) e).1
 
-  module _ (k : ℕ) (e : Placed k ≡ insertion less x n slots) where
-    told : (lookup less x (take n slots) ≡ Absent k) × (ltb n (length slots) ≡ true)
+  module _ (k : ℕ) (e : Ok k ≡ insertion less x n slots) where
+    told : (lookup less x (take n slots) ≡ Err k) × (ltb n (length slots) ≡ true)
     told = placed_from (ltb n (length slots)) (lookup less x (take n slots)) k e
 
     pub placed_room : n < length slots
@@ -53,3 +51,17 @@ module _ {X : Type 0} (less : X → X → Bool) (x : X) (n : ℕ) (slots : List 
         ap (λ m. drop m (over (inserted less x (take n slots)) slots)) (sym placed_count)
         ∙ drop-append_seam (inserted less x (take n slots)) (drop (length (inserted less x (take n slots))) slots)
         ∙ ap (λ m. drop m slots) placed_count
+
+    pub placed_length : length (over (inserted less x (take n slots)) slots) ≡ length slots
+    placed_length =
+        let r : n < length slots = placed_room in
+        let l = placed_count in
+        simp (length-append, length-drop) (omega arith)
+
+-- an insertion into a list with room leaves the new list, also where the item is there
+pub inserted_anyway : {X : Type 0} (less : X → X → Bool) (x : X) (n : ℕ) (xs : List X) → ((k : ℕ) → lookup less x xs ≡ Err k → length xs < n) → after_insertion (insertion_at less x n xs) (inserted less x xs) xs ≡ inserted less x xs
+inserted_anyway {X} less x n xs room = go (lookup less x xs) refl
+  where
+    go : (r : Result ℕ ℕ) → lookup less x xs ≡ r → after_insertion (answered (ltb (length xs) n) r) (inserted less x xs) xs ≡ inserted less x xs
+    go (Ok k) e = sym (inserted_found less x xs k e)
+    go (Err k) e = rw (lt-ltb (length xs) n (room k e))

@@ -5,14 +5,19 @@ ghost use Rattle.std.proofs.Common.{rules};
 
 use std::cmp::Ordering;
 
-// A kind of item with a total order. `less` tells of two items whether the first is less.
-pub trait TotalOrder {
+// A kind of item whose comparison tells all different items apart. `less` tells of two items whether the first is less.
+pub trait TotalOrder: Ord {
     ghost less: { Self → Self → Bool };
 
     fn order(&self, other: &Self) -> Ordering
-        ensures { result ≡ rank less self.now other.now };
+        ensures { result ≡ rank less self.now other.now }
+    {
+        self.cmp(other)
+    }
 
     ghost total: { StrictTotal less };
+
+    ghost ranked: { (x y : Self) → Self.cmp x y ≡ rank less x y };
 }
 
 impl TotalOrder for u8 {
@@ -20,15 +25,7 @@ impl TotalOrder for u8 {
 
     ghost total = { Prim.search rules };
 
-    fn order(&self, other: &u8) -> Ordering {
-        if *self < *other {
-            Ordering::Less
-        } else if *other < *self {
-            Ordering::Greater
-        } else {
-            Ordering::Equal
-        }
-    }
+    ghost ranked = { Prim.search rules };
 }
 
 impl TotalOrder for usize {
@@ -36,7 +33,5 @@ impl TotalOrder for usize {
 
     ghost total = { Prim.search rules };
 
-    fn order(&self, other: &usize) -> Ordering {
-        self.cmp(other)
-    }
+    ghost ranked = { Prim.search rules };
 }

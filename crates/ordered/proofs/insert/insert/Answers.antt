@@ -1,11 +1,9 @@
 -- The list is what `find` searched, and turning the part by one moves the new item to its place.
-use Rattle.std.proofs.Common.{◌≡◌, ℕ, suc, ◌+◌, ◌-◌, ◌<◌, ◌≤◌, min, Bool, ltb, ◌⊎◌, List, [], ◌∷◌, ◌++◌, length, take, drop, set, sym, refl, ap, ◌∙◌, ap₂, inl, inr, append_assoc, arith, rules}
+use Rattle.std.proofs.Common.{◌≡◌, ℕ, suc, ◌+◌, ◌-◌, ◌<◌, ◌≤◌, min, Bool, ltb, ◌⊎◌, List, [], ◌∷◌, ◌++◌, length, take, drop, set, sym, refl, ap, ◌∙◌, ap₂, inl, inr, append_assoc, arith, rules, Ok, Err, Result}
 use borrow.Rule.Slice.PartMut.{put_mid}
 use Rattle.std.proofs.lemmas.List.{length-drop, length-take, length-take-le, length_push, take_all, take_at, drop_at, take-append-le, drop-append-le, set_split}
 use Rattle.std.proofs.lemmas.Bool.{cases_lt, cond-true, cond-false, lt-ltb, le-ltb}
-use Rattle.ordered.specs.declared.find.Lookup.{Lookup}
-use Rattle.ordered.specs.declared.find.Lookup.TheVariants.{Found, Absent}
-use Rattle.ordered.specs.declared.insert.Insertion.TheVariants.{Placed, Full}
+use Rattle.ordered.specs.declared.insert.NotInserted.TheVariants.{Full}
 use Rattle.ordered.specs.Lookups.{lookup, inserted, answered, insertion, over}
 use Rattle.ordered.proofs.Lookups.{absent_within, inserted_absent, length_inserted_absent}
 use Rattle.ordered.proofs.Ascending.{inserted_ascending}
@@ -44,21 +42,21 @@ module _ {X : Type 0} (less : X → X → Bool) (x : X) (slots : List X) (count 
   listed : take (used - 0) slots ≡ take count slots
   listed = ap (λ n. take n slots) (omega arith) ∙ take_used slots count used e
 
-  searched : (r : Lookup) → r ≡ lookup less x (take (used - 0) slots) → answered (ltb count (length slots)) r ≡ insertion less x count slots
+  searched : (r : Result ℕ ℕ) → r ≡ lookup less x (take (used - 0) slots) → answered (ltb count (length slots)) r ≡ insertion less x count slots
   searched r h = ap (answered (ltb count (length slots))) (h ∙ ap (lookup less x) listed)
 
-  module _ (k : ℕ) (h : Absent k ≡ lookup less x (take (used - 0) slots)) where
-    absent : lookup less x (take count slots) ≡ Absent k
+  module _ (k : ℕ) (h : Err k ≡ lookup less x (take (used - 0) slots)) where
+    absent : lookup less x (take count slots) ≡ Err k
     absent = ap (lookup less x) (sym listed) ∙ sym h
 
     place : k ≤ used
     place = omega (arith, absent_within less x (take count slots) k absent, length-take count slots)
 
-    full : used ≡ length slots → Full ≡ insertion less x count slots
-    full l = sym (cond-false (ltb count (length slots)) (Placed k) Full (le-ltb count (length slots) (omega arith))) ∙ searched (Absent k) h
+    full : used ≡ length slots → Err Full ≡ insertion less x count slots
+    full l = sym (cond-false (ltb count (length slots)) (Ok k) (Err Full) (le-ltb count (length slots) (omega arith))) ∙ searched (Err k) h
 
-    placed : (used ≡ length slots → ⊥) → Placed k ≡ insertion less x count slots
-    placed l = sym (cond-true (ltb count (length slots)) (Placed k) Full (lt-ltb count (length slots) (omega arith))) ∙ searched (Absent k) h
+    placed : (used ≡ length slots → ⊥) → Ok k ≡ insertion less x count slots
+    placed l = sym (cond-true (ltb count (length slots)) (Ok k) (Err Full) (lt-ltb count (length slots) (omega arith))) ∙ searched (Err k) h
 
     moved : (self : List X) → (used ≡ length slots → ⊥) → self ≡ rotated (take (used + 1 - k) (drop k (set slots used x))) → put_mid k (used + 1 - k) (set slots used x) self ≡ over (inserted less x (take count slots)) slots
     moved self l s =
@@ -70,41 +68,41 @@ module _ {X : Type 0} (less : X → X → Bool) (x : X) (slots : List X) (count 
 
 pub returns-then-used-slots : goal.returns-then-used-slots
 returns-then-used-slots g c = record {
-  answer = full g.T.TotalOrder.less c.args.item c.args.slots.now c.args.count c.min-used.result (omega arith) c.in-Absent.at c.in-Absent.ensures c.if-used-slots.true;
+  answer = full g.T.TotalOrder.less c.args.item c.args.slots.now c.args.count c.min-used.result (omega arith) c.in-Err.at c.in-Err.ensures c.if-used-slots.true;
   after = refl;
   ascends = inserted_ascending g.T.TotalOrder.less g.met.T.TotalOrder.total c.args.item (take c.args.count c.args.slots.now);
 }
 
 pub offset_bounds-slots-at : goal.offset_bounds-slots-at
 offset_bounds-slots-at g c =
-    let h = place g.T.TotalOrder.less c.args.item c.args.slots.now c.args.count c.min-used.result (omega arith) c.in-Absent.at c.in-Absent.ensures in
+    let h = place g.T.TotalOrder.less c.args.item c.args.slots.now c.args.count c.min-used.result (omega arith) c.in-Err.at c.in-Err.ensures in
     search rules
 
 pub slice_bounds-rotate_right-count : goal.slice_bounds-rotate_right-count
 slice_bounds-rotate_right-count g c =
-    let h = place g.T.TotalOrder.less c.args.item c.args.slots.now c.args.count c.min-used.result (omega arith) c.in-Absent.at c.in-Absent.ensures in
+    let h = place g.T.TotalOrder.less c.args.item c.args.slots.now c.args.count c.min-used.result (omega arith) c.in-Err.at c.in-Err.ensures in
     omega arith
 
 pub slice_bounds-rotate_right-start : goal.slice_bounds-rotate_right-start
 slice_bounds-rotate_right-start g c =
-    let h = place g.T.TotalOrder.less c.args.item c.args.slots.now c.args.count c.min-used.result (omega arith) c.in-Absent.at c.in-Absent.ensures in
+    let h = place g.T.TotalOrder.less c.args.item c.args.slots.now c.args.count c.min-used.result (omega arith) c.in-Err.at c.in-Err.ensures in
     search rules
 
 pub rotate_right-requires : goal.rotate_right-requires
 rotate_right-requires g c =
-    let h = place g.T.TotalOrder.less c.args.item c.args.slots.now c.args.count c.min-used.result (omega arith) c.in-Absent.at c.in-Absent.ensures in
+    let h = place g.T.TotalOrder.less c.args.item c.args.slots.now c.args.count c.min-used.result (omega arith) c.in-Err.at c.in-Err.ensures in
     search rules
 
-pub returns-in-Found : goal.returns-in-Found
-returns-in-Found g c = record {
-  answer = searched g.T.TotalOrder.less c.args.item c.args.slots.now c.args.count c.min-used.result (omega arith) (Found c.in-Found.at) c.in-Found.ensures;
+pub returns-in-Ok : goal.returns-in-Ok
+returns-in-Ok g c = record {
+  answer = searched g.T.TotalOrder.less c.args.item c.args.slots.now c.args.count c.min-used.result (omega arith) (Ok c.in-Ok.at) c.in-Ok.ensures;
   after = refl;
   ascends = inserted_ascending g.T.TotalOrder.less g.met.T.TotalOrder.total c.args.item (take c.args.count c.args.slots.now);
 }
 
 pub returns-else-used-slots : goal.returns-else-used-slots
 returns-else-used-slots g c = record {
-  answer = placed g.T.TotalOrder.less c.args.item c.args.slots.now c.args.count c.min-used.result (omega arith) c.in-Absent.at c.in-Absent.ensures c.if-used-slots.false;
-  after = moved g.T.TotalOrder.less c.args.item c.args.slots.now c.args.count c.min-used.result (omega arith) c.in-Absent.at c.in-Absent.ensures c.rotate_right.new.self c.if-used-slots.false c.rotate_right.ensures.after;
+  answer = placed g.T.TotalOrder.less c.args.item c.args.slots.now c.args.count c.min-used.result (omega arith) c.in-Err.at c.in-Err.ensures c.if-used-slots.false;
+  after = moved g.T.TotalOrder.less c.args.item c.args.slots.now c.args.count c.min-used.result (omega arith) c.in-Err.at c.in-Err.ensures c.rotate_right.new.self c.if-used-slots.false c.rotate_right.ensures.after;
   ascends = inserted_ascending g.T.TotalOrder.less g.met.T.TotalOrder.total c.args.item (take c.args.count c.args.slots.now);
 }
