@@ -2,10 +2,13 @@
 --     cell a b c         the cell with these coordinates
 --     origin             (0,0,0)
 --     opposite x         the negative of x
+--     plus x y, minus x y the sum and the difference, coordinate by coordinate
+--     Fits x             the coordinates of x are in the range of a cell's
 --     cell_less x y      x comes before y
 --     Within r x         every coordinate of x lies from −r to r; `within r x` is its test
 --     in_reach x         every coordinate of x lies from −15 to 15
-use Rattle.std.specs.Prelude.{ℕ, Bool, ◌&&◌, List, [], ◌∷◌, ℤ, pos, neg_ℤ, ◌≤ℤ◌, int_le, int_lt}
+use Rattle.std.specs.Prelude.{ℕ, Bool, ◌&&◌, List, [], ◌∷◌, ℤ, pos, neg_ℤ, ◌+ℤ◌, ◌-ℤ◌, ◌≤ℤ◌, int_le, int_lt, FitsSigned}
+use Rattle.std.specs.Int.{w8}
 use Rattle.ordered.specs.Orders.{list_less}
 use Rattle.lattice.specs.declared.cell.Cell.{Cell}
 
@@ -17,6 +20,15 @@ origin = cell (pos 0) (pos 0) (pos 0)
 
 abbrev pub opposite : Cell → Cell
 opposite x = cell (neg_ℤ x.a) (neg_ℤ x.b) (neg_ℤ x.c)
+
+abbrev pub plus : Cell → Cell → Cell
+plus x y = cell (x.a +ℤ y.a) (x.b +ℤ y.b) (x.c +ℤ y.c)
+
+abbrev pub minus : Cell → Cell → Cell
+minus x y = cell (x.a -ℤ y.a) (x.b -ℤ y.b) (x.c -ℤ y.c)
+
+abbrev pub Fits : Cell → Type 0
+Fits x = FitsSigned w8 x.a × FitsSigned w8 x.b × FitsSigned w8 x.c
 
 -- the coordinates, the one that decides first in front
 abbrev pub coordinates : Cell → List ℤ

@@ -4,7 +4,8 @@ ghost use Rattle.std.specs.Cmp.{partial_order_from_own_ties};
 ghost use Rattle.std.specs.Cmp.Rules.{comparing};
 ghost use Rattle.std.specs.Ordering.{as_partial_cmp, int_cmp, on, then_cmp};
 ghost use Rattle.std.proofs.Common.{rules};
-ghost use Rattle.lattice.specs.Cells.{origin, cell_less, from_to, in_reach};
+ghost use Rattle.std.specs.Option.{SomeIff};
+ghost use Rattle.lattice.specs.Cells.{origin, cell_less, from_to, in_reach, plus, Fits};
 ghost use Rattle.lattice.specs.Coordinates.{cell_order, cell_ranked};
 
 use crate::cell::Cell;
@@ -13,10 +14,9 @@ use ordered::order::TotalOrder;
 use std::cmp::Ordering;
 
 // How far from 0 a coordinate may be for a lattice to answer.
-const REACH: i16 = 15;
+const REACH: i8 = 15;
 
-// Whether a coordinate is in reach. It may be wider than a cell's.
-pub fn is_near(coordinate: i16) -> bool
+fn is_near(coordinate: i8) -> bool
     ensures { result ≡ from_to 15 coordinate }
 {
     -REACH <= coordinate && coordinate <= REACH
@@ -67,10 +67,21 @@ impl Filler for Cell {
 impl Cell {
     pub const ORIGIN: Cell = Cell { a: 0, b: 0, c: 0 };
 
+    // The sum, coordinate by coordinate; none if it is no cell.
+    pub fn checked_add(self, step: Cell) -> Option<Cell>
+        ensures { SomeIff result (Fits (plus self step)) (plus self step) }
+    {
+        Some(Cell {
+            a: self.a.checked_add(step.a)?,
+            b: self.b.checked_add(step.b)?,
+            c: self.c.checked_add(step.c)?,
+        })
+    }
+
     // Every coordinate lies from −15 to 15.
     pub fn is_in_reach(self) -> bool
         ensures { result ≡ in_reach self }
     {
-        is_near(i16::from(self.a)) && is_near(i16::from(self.b)) && is_near(i16::from(self.c))
+        is_near(self.a) && is_near(self.b) && is_near(self.c)
     }
 }

@@ -1,6 +1,9 @@
 -- What lies behind the items of a list with a fixed room, after one item more.
-use Rattle.std.proofs.Common.{◌≡◌, ℕ, ◌+◌, ◌-◌, List, drop, set, replicate, sym, ap, ◌∙◌, arith}
+use Rattle.std.proofs.Common.{◌≡◌, ℕ, ◌+◌, ◌-◌, List, [], ◌∷◌, ◌++◌, drop, set, replicate, sym, ap, ◌∙◌, arith, ◌<◌, length, Ok, Err, Result, is_ok, nat_lt, rules}
+use Rattle.std.specs.Result.{IsOk}
+use Rattle.std.proofs.lemmas.Bool.{lt-ltb, false≢true, cond-true}
 use Rattle.std.proofs.lemmas.List.{drop-drop, drop-replicate, drop-set-lt}
+use Rattle.ordered.specs.Rooms.{pushed}
 
 -- one place further on, one blank fewer lies behind
 pub blank_behind : {X : Type 0} (n count : ℕ) (b : X) (slots : List X) → drop count slots ≡ replicate (n - count) b → drop (count + 1) slots ≡ replicate (n - (count + 1)) b
@@ -12,3 +15,12 @@ blank_behind n count b slots blank =
 
 pub blank_behind_set : {X : Type 0} (n count : ℕ) (b x : X) (slots : List X) → drop count slots ≡ replicate (n - count) b → drop (count + 1) (set slots count x) ≡ replicate (n - (count + 1)) b
 blank_behind_set n count b x slots blank = drop-set-lt (count + 1) slots count x (omega arith) ∙ blank_behind n count b slots blank
+
+-- a push with room is done
+pub has_room : {X E : Type 0} (n : ℕ) (xs : List X) (r : Result (Unit {0}) E) → is_ok r ≡ nat_lt (length xs) n → length xs < n → IsOk r
+has_room n xs (Ok u) told room = search rules
+has_room n xs (Err e) told room = absurd (false≢true (told ∙ lt-ltb (length xs) n room))
+
+-- a push with room puts the item behind the others
+pub pushed_behind : {X : Type 0} (n : ℕ) (x : X) (xs : List X) → length xs < n → pushed n x xs ≡ xs ++ x ∷ []
+pushed_behind n x xs room = cond-true (nat_lt (length xs) n) _ _ (lt-ltb (length xs) n room)

@@ -46,6 +46,14 @@ impl<T: Filler, const N: usize> Clone for ArrayList<T, N> {
 
 impl<T: Filler, const N: usize> Copy for ArrayList<T, N> {}
 
+impl<T: Filler, const N: usize> Default for ArrayList<T, N> {
+    ghost is_default = { λ xs. xs ≡ [] };
+
+    fn default() -> ArrayList<T, N> {
+        ArrayList::new()
+    }
+}
+
 impl<T: Filler, const N: usize> ArrayList<T, N> {
     pub fn new() -> ArrayList<T, N>
         ensures { result ≡ [] }

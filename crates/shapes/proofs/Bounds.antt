@@ -4,10 +4,10 @@ use lib.Signed.{le_z}
 use Rattle.std.proofs.lemmas.Int.{ints}
 use Rattle.std.proofs.lemmas.Bool.{and_from, lt-ltb}
 use Rattle.lattice.specs.declared.cell.Cell.{Cell}
-use Rattle.lattice.specs.Cells.{Within, from_to, within}
+use Rattle.lattice.specs.Cells.{Within, from_to, within, plus, minus}
 use Rattle.lattice.specs.Matrices.{Matrix, dot, image, Small}
 use Rattle.lattice.specs.Lattices.{motion, image_under}
-use Rattle.shapes.specs.Positions.{plus, minus, ShortOf}
+use Rattle.shapes.specs.Positions.{ShortOf}
 
 -- z lies from −r to r
 abbrev Between : ℕ → ℤ → Type 0

@@ -13,7 +13,6 @@ pub mod Reach
 pub mod Classes
 pub mod Sorting
 pub mod ShapeFacts
-pub mod Marks
 pub mod Representatives
 pub mod Members
 pub mod Firsts

@@ -1,8 +1,8 @@
 -- Members as calls tell them.
-use Rattle.std.proofs.Common.{◌≡◌, ℕ, ◌+◌, ◌<◌, Bool, true, false, cond, ◌&&◌, ltb, ◌⊎◌, List, [], ◌∷◌, ◌++◌, map, length, get_or, take, filter, sym, refl, ap, ◌∙◌, subst, inl, inr, append-nil, arith, length-take}
+use Rattle.std.proofs.Common.{◌≡◌, ℕ, ◌+◌, ◌<◌, Bool, true, false, cond, ◌&&◌, ltb, ◌⊎◌, List, [], ◌∷◌, ◌++◌, map, length, get_or, take, filter, sym, refl, ap, ◌∙◌, subst, inl, inr, append-nil, arith}
 use Rattle.std.specs.List.{AllByRecursion}
 use Rattle.std.proofs.lemmas.List.Elements.{filter_more}
-use Rattle.std.proofs.lemmas.List.{get_or-take, take_more}
+use Rattle.std.proofs.lemmas.List.{take_more}
 use Rattle.std.proofs.lemmas.Int.{ints}
 use Rattle.std.proofs.lemmas.Bool.{and_parts, and_from, ltb-true, lt-ltb}
 use Rattle.ordered.specs.Members.{In}
@@ -60,9 +60,7 @@ pub set_ascending : (set : MotionSet) → Ascending ltb (set_motions set)
 set_ascending set = ascending_from_climbs (set_motions set) set.ascending
 
 pub set_has_0 : (set : MotionSet) → In 0 (set_motions set)
-set_has_0 set =
-    let there : In (get_or (set_motions set) 0 1) (set_motions set) = in_get_or (set_motions set) 0 1 (omega (arith, length-take set.count set.motions, set.some, set.space)) in
-    in_cast (set_motions set) (get_or-take set.count set.motions 0 1 (omega (arith, set.some)) ∙ set.zero) there
+set_has_0 set = in_cast (set_motions set) set.zero (in_get_or (set_motions set) 0 1 (omega (arith, set.some)))
 
 -- a test that every item passes keeps all
 kept_every : {X : Type 0} (p : X → Bool) (xs : List X) → ((x : X) → In x xs → p x ≡ true) → filter p xs ≡ xs

@@ -7,14 +7,14 @@ use Rattle.ordered.specs.Lookups.{sorted}
 use Rattle.ordered.proofs.Members.{in_cast, in_map, from_map}
 use Rattle.ordered.proofs.Sorted.{sorted_in, sorted_out}
 use Rattle.lattice.specs.declared.cell.Cell.{Cell}
-use Rattle.lattice.specs.Cells.{origin, opposite, cell_less}
+use Rattle.lattice.specs.Cells.{origin, opposite, cell_less, plus, minus}
 use Rattle.lattice.specs.Matrices.{Matrix, image, identity}
 use Rattle.lattice.specs.Lattices.{motion, number_after, Rules}
 use Rattle.lattice.specs.Coordinates.{cell_order}
 use Rattle.lattice.proofs.Products.{image_identity}
 use Rattle.lattice.proofs.Numbers.{in_turn}
 use Rattle.shapes.specs.Connected.{Reached, Connected}
-use Rattle.shapes.specs.Positions.{plus, minus, neighbours, shifted, normal, NormalPosition}
+use Rattle.shapes.specs.Positions.{neighbours, shifted, normal, NormalPosition}
 use Rattle.shapes.specs.Classes.{moved}
 use Rattle.shapes.proofs.Connected.{reached_carried, connected_from}
 use Rattle.shapes.proofs.Sums.{minus_self, minus_plus, plus_opposite, image_plus, image_minus}

@@ -13,17 +13,13 @@ use Rattle.lattice.specs.declared.motion_set.MotionSet.{MotionSet}
 use Rattle.lattice.specs.Kinds.{set_motions}
 use Rattle.lattice.specs.Lattices.{Rules}
 use Rattle.lattice.specs.Matrices.{Matrix}
-use Rattle.shapes.specs.declared.orbit.Orbit.{Orbit}
 use Rattle.shapes.specs.declared.orientation.Orientation.{Orientation}
 use Rattle.shapes.specs.Classes.{same_cells, cells_less, moved, orbit_of, orbit_size_of}
 use Rattle.shapes.specs.Floods.{some_pass}
-use Rattle.shapes.specs.Members.{placement_cells, usable, first_motions, orientations, orbit_list, oriented}
+use Rattle.shapes.specs.Members.{placement_cells, usable, first_motions, orientations, oriented}
 use Rattle.shapes.proofs.Classes.{cells_order, cells_equality}
 use Rattle.shapes.proofs.Members.{set_has_0}
 use Rattle.shapes.proofs.Firsts.{some_pass_map, firsts_push, firsts_few, firsts_count}
-
-pub orbit_length : (o : Orbit) → length (orbit_list o) ≡ o.count
-orbit_length o = omega (arith, length-take o.count o.orientations, o.few, o.space)
 
 -- an item behind two lists that correspond, or none
 both_grow : {X Y Z : Type 0} (f : X → Z) (h : Y → Z) (xs : List X) (ys : List Y) (x : X) (y : Y) (b : Bool) → map f xs ≡ map h ys → f x ≡ h y → map f (cond b xs (xs ++ x ∷ [])) ≡ map h (ys ++ cond b [] (y ∷ []))

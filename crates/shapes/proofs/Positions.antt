@@ -9,9 +9,9 @@ use Rattle.ordered.specs.Lookups.{sorted}
 use Rattle.ordered.proofs.Ascending.{ascending_map, ascending_no_repeats}
 use Rattle.ordered.proofs.Sorted.{sorted_in, sorted_ascending, sorted_same, sorted_itself, sorted_length, sorted_map}
 use Rattle.lattice.specs.declared.cell.Cell.{Cell}
-use Rattle.lattice.specs.Cells.{origin, cell_less}
+use Rattle.lattice.specs.Cells.{origin, cell_less, minus}
 use Rattle.lattice.specs.Coordinates.{cell_order}
-use Rattle.shapes.specs.Positions.{minus, shifted, normal, FromOrigin, NormalPosition}
+use Rattle.shapes.specs.Positions.{shifted, normal, FromOrigin, NormalPosition}
 use Rattle.shapes.proofs.Sums.{cell_less_minus, minus_origin, minus_self, minus_minus}
 
 -- ---- map

@@ -10,10 +10,10 @@ use Rattle.ordered.proofs.Members.{in_cast, in_map, from_map, all_in}
 use Rattle.ordered.proofs.Counting.{fits}
 use Rattle.ordered.proofs.Orders.{neither, same_by}
 use Rattle.lattice.specs.declared.cell.Cell.{Cell}
-use Rattle.lattice.specs.Cells.{origin, Within}
+use Rattle.lattice.specs.Cells.{origin, Within, plus}
 use Rattle.lattice.specs.Coordinates.{whole_order}
 use Rattle.shapes.specs.Connected.{Reached, at_start, onward, Connected}
-use Rattle.shapes.specs.Positions.{plus, neighbours, ShortOf}
+use Rattle.shapes.specs.Positions.{neighbours, ShortOf}
 use Rattle.shapes.proofs.Bounds.{short_within}
 
 -- ---- the numbers n − 1 down to 0

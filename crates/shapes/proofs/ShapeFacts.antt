@@ -1,9 +1,9 @@
 -- What cells without a fault are: in normal position, in reach, 1 to 16; and so of the cells of a shape. The steps of looking for a fault.
-use Rattle.std.proofs.Common.{◌≡◌, ℕ, zero, suc, ◌+◌, ◌-◌, ◌<◌, ◌≤◌, Bool, true, false, cond, ◌&&◌, leb, List, [], ◌∷◌, length, get_or, take, drop, set, replicate, is_some, Some, None, Ok, Err, Option, sym, refl, ap, ◌∙◌, subst, inl, inr, add-one, arith, length-take}
+use Rattle.std.proofs.Common.{◌≡◌, ℕ, suc, ◌+◌, ◌<◌, ◌≤◌, Bool, true, false, cond, ◌&&◌, leb, List, [], ◌∷◌, length, get_or, drop, is_some, Some, None, Ok, Err, Option, sym, refl, ap, ◌∙◌, subst, inl, inr, add-one, arith}
 use Rattle.std.specs.Ordering.{is_eq}
-use Rattle.std.specs.List.{list_all, AllByRecursion}
+use Rattle.std.specs.List.{AllByRecursion}
 use Rattle.std.proofs.lemmas.Bool.{true≢false, and_parts, and_from, cond-true, leb-true, le-leb}
-use Rattle.std.proofs.lemmas.List.{take_all, at_drop_all, drop_more, drop-set-lt, drop-drop, drop-replicate, take_more, take_more_set}
+use Rattle.std.proofs.lemmas.List.{at_drop_all, drop_more}
 use Rattle.std.proofs.ByRecursion.{All-weaker}
 use Rattle.ordered.specs.Members.{In}
 use Rattle.ordered.specs.Orders.{Ascending, rank}
@@ -132,28 +132,6 @@ shape_some s = (sound_length (shape_cells s) s.sound).0
 pub shape_few : (s : Shape) → length (shape_cells s) ≤ 16
 shape_few s = (sound_length (shape_cells s) s.sound).1
 
-pub shape_length : (s : Shape) → length (shape_cells s) ≡ s.count
-shape_length s = let f = s.few in let p = s.space in length-take s.count s.cells ∙ omega arith
-
--- ---- the slots of a shape that is made
-pub blank_origins : (n : ℕ) → list_all (λ x. is_eq (rank cell_less x origin)) (replicate n origin) ≡ true
-blank_origins zero = refl
-blank_origins (suc n) = blank_origins n
-
-pub blank_more : (slots : List Cell) (i : ℕ) (x : Cell) → drop i slots ≡ replicate (16 - i) origin → drop (i + 1) (set slots i x) ≡ replicate (16 - (i + 1)) origin
-blank_more slots i x h =
-    drop-set-lt (i + 1) slots i x (omega arith)
-    ∙ sym (drop-drop 1 i slots)
-    ∙ ap (drop 1) h
-    ∙ drop-replicate 1 (16 - i) origin
-    ∙ ap (λ n. replicate n origin) (omega arith)
-
-pub filled_more : (slots xs : List Cell) (i : ℕ) (x d : Cell) → i < length slots → i < length xs → x ≡ get_or xs i d → take i slots ≡ take i xs → take (i + 1) (set slots i x) ≡ take (i + 1) xs
-filled_more slots xs i x d l m e h = let p = take_more_set slots i x l in let q = take_more xs i d m in cc
-
--- when all are read
-pub filled_all : (slots xs : List Cell) (i : ℕ) → i ≡ length xs → take i slots ≡ take i xs → take (length xs) slots ≡ xs
-filled_all slots xs i e h = ap (λ n. take n slots) (sym e) ∙ h ∙ take_all i xs (omega arith)
-
+-- ---- when all are read
 pub read_none : (xs : List Cell) (i : ℕ) (before : Option Cell) → i ≡ length xs → 1 ≤ length xs → length xs ≤ 16 → first_fault i before (drop i xs) ≡ first_fault 0 None xs → shape_fault xs ≡ None
 read_none xs i before e l m h = fault_counted xs l m ∙ sym h ∙ at_drop_all (first_fault i before) xs i (omega arith)

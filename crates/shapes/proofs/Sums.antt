@@ -3,11 +3,10 @@ use Rattle.std.proofs.Common.{◌≡◌, ℤ, ◌+ℤ◌, ◌-ℤ◌, ◌*ℤ◌
 use lib.Signed.{lt_z}
 use Rattle.std.proofs.lemmas.Int.{ints}
 use Rattle.lattice.specs.declared.cell.Cell.{Cell}
-use Rattle.lattice.specs.Cells.{origin, opposite, cell_less}
+use Rattle.lattice.specs.Cells.{origin, opposite, cell_less, plus, minus}
 use Rattle.lattice.specs.Matrices.{Matrix, dot, image}
 use Rattle.lattice.specs.Coordinates.{cell_same}
 use Rattle.lattice.proofs.Integers.{mul_add}
-use Rattle.shapes.specs.Positions.{plus, minus}
 
 -- ---- the order
 less_minus : (x y d : ℤ) → lt_z (x -ℤ d) (y -ℤ d) ≡ lt_z x y

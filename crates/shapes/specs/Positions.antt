@@ -1,21 +1,14 @@
 -- Lists of cells in normal position, and the cells next to a cell. Assumes nothing.
---     plus x y, minus x y       the sum and the difference, coordinate by coordinate
 --     neighbours ds x           the cells next to x, in the order of the directions ds
 --     shifted s                 s with its first cell taken away from each
 --     normal s                  s with its least cell taken away from each, listed ascending
 --     NormalPosition s          s is ascending, and its first cell is there and is the origin
 --     ShortOf n x               no coordinate of x reaches n in size
-use Rattle.std.specs.Prelude.{◌≡◌, ℕ, ◌<◌, List, [], ◌∷◌, map, ◌+ℤ◌, ◌-ℤ◌, unsigned_abs}
+use Rattle.std.specs.Prelude.{◌≡◌, ℕ, ◌<◌, List, [], ◌∷◌, map, unsigned_abs}
 use Rattle.ordered.specs.Orders.{Ascending}
 use Rattle.ordered.specs.Lookups.{sorted}
 use Rattle.lattice.specs.declared.cell.Cell.{Cell}
-use Rattle.lattice.specs.Cells.{cell, origin, cell_less}
-
-abbrev pub plus : Cell → Cell → Cell
-plus x y = cell (x.a +ℤ y.a) (x.b +ℤ y.b) (x.c +ℤ y.c)
-
-abbrev pub minus : Cell → Cell → Cell
-minus x y = cell (x.a -ℤ y.a) (x.b -ℤ y.b) (x.c -ℤ y.c)
+use Rattle.lattice.specs.Cells.{origin, plus, minus, cell_less}
 
 abbrev pub neighbours : List Cell → Cell → List Cell
 neighbours ds x = map (plus x) ds

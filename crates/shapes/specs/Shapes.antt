@@ -2,15 +2,16 @@
 --     shape_cells s       the cells of the shape s
 --     made r              a result of making a shape, by its cells
 --     wide x              the cell with the coordinates x
-use Rattle.std.specs.Prelude.{List, take, Ok, Err, Result}
+--     if_in_reach x       the cell x, if it is in reach
+use Rattle.std.specs.Prelude.{cond, List, Some, None, Option, Ok, Err, Result}
 use Rattle.lattice.specs.declared.cell.Cell.{Cell}
-use Rattle.lattice.specs.Cells.{cell}
+use Rattle.lattice.specs.Cells.{cell, in_reach}
 use Rattle.shapes.specs.declared.coordinates.Coordinates.{Coordinates}
 use Rattle.shapes.specs.declared.shape.Shape.{Shape}
 use Rattle.shapes.specs.declared.shape_fault.ShapeFault.{ShapeFault}
 
 abbrev pub shape_cells : Shape → List Cell
-shape_cells s = take s.count s.cells
+shape_cells s = s.cells
 
 abbrev pub made : Result Shape ShapeFault → Result (List Cell) ShapeFault
 made (Ok s) = Ok (shape_cells s)
@@ -18,3 +19,6 @@ made (Err f) = Err f
 
 abbrev pub wide : Coordinates → Cell
 wide x = cell x.a x.b x.c
+
+abbrev pub if_in_reach : Cell → Option Cell
+if_in_reach x = cond (in_reach x) (Some x) None

@@ -1,34 +1,26 @@
 // The members of a shape: its images under motions, in normal position.
-ghost use Rattle.std.specs.Prelude.{◌≡◌, ◌<◌, ◌≤◌, [], map, length};
+ghost use Rattle.std.specs.Prelude.{◌≡◌, ◌<◌, ◌≤◌, map, length};
 ghost use Rattle.ordered.specs.Lookups.{inserted, sorted as in_order};
-ghost use Rattle.lattice.specs.Cells.{Within, cell_less};
+ghost use Rattle.lattice.specs.Cells.{Within, cell_less, minus};
 ghost use Rattle.lattice.specs.Lattices.{image_under};
 ghost use Rattle.std.specs.List.{AllByRecursion};
 ghost use Rattle.shapes.specs.Classes.{moved};
 ghost use Rattle.shapes.specs.Members.{placement_cells, member_under};
-ghost use Rattle.shapes.specs.Positions.{minus, shifted};
+ghost use Rattle.shapes.specs.Positions.{shifted};
 ghost use Rattle.shapes.specs.Shapes.{shape_cells};
 
 use crate::placement::Placement;
 use crate::shape::Shape;
 use lattice::cell::Cell;
 use lattice::lattice::Lattice;
-use ordered::insert::{Insertion, insert};
+use ordered::array_list::ArrayList;
 
 impl Placement {
-    fn empty() -> Placement
-        ensures { placement_cells result ≡ [] }
-    {
-        Placement {
-            cells: [Cell::ORIGIN; 16],
-            count: 0,
-        }
-    }
-
     pub fn cells(&self) -> &[Cell]
-        ensures { result.now ≡ placement_cells self.now }
+        ensures value { result.now ≡ placement_cells self.now }
+        ensures few { length (placement_cells self.now) ≤ 16 }
     {
-        &self.cells[0..self.count]
+        self.cells.as_slice()
     }
 
     // One cell more at its place in the order, unless it is there.
@@ -36,11 +28,8 @@ impl Placement {
         requires { length (placement_cells self.old) < 16 }
         ensures { placement_cells self.new ≡ inserted cell_less x (placement_cells self.old) }
     {
-        match insert(&mut self.cells, self.count, x) {
-            Insertion::Placed(_) => self.count += 1,
-            Insertion::Present(_) => {}
-            Insertion::Full => {}
-        }
+        // There is room.
+        let _ = self.cells.insert(x);
     }
 
     // The different cells of a list, ascending.
@@ -48,7 +37,7 @@ impl Placement {
         requires { length cells.now ≤ 16 }
         ensures { placement_cells result ≡ in_order cell_less cells.now }
     {
-        let mut placement = Placement::empty();
+        let mut placement = Placement::default();
         for x in cells {
             placement.add(*x);
         }
@@ -60,7 +49,7 @@ impl Placement {
 fn images<L: Lattice>(lattice: &L, motion: u8, shape: &Shape) -> Placement
     ensures { placement_cells result ≡ in_order cell_less (map (image_under (L.motions lattice.now) motion) (shape_cells shape.now)) }
 {
-    let mut placement = Placement::empty();
+    let mut placement = Placement::default();
     for x in shape.cells() {
         placement.add(lattice.image(motion, *x));
     }
@@ -80,18 +69,18 @@ fn difference(x: Cell, y: Cell) -> Cell
     }
 }
 
-// Takes the first cell away from each.
-fn shift(placement: &mut Placement)
-    requires { AllByRecursion (Within 45) (placement_cells placement.old) }
-    ensures { placement_cells placement.new ≡ shifted (placement_cells placement.old) }
+// The cells with the first of them taken away from each.
+fn from_the_first(placement: &Placement) -> Placement
+    requires { AllByRecursion (Within 45) (placement_cells placement.now) }
+    ensures { placement_cells result ≡ shifted (placement_cells placement.now) }
 {
-    let count = placement.count;
-    let mut cells = placement.cells;
-    let first = cells[0];
-    for i in 0..count {
-        cells[i] = difference(cells[i], first);
+    let mut cells = ArrayList::new();
+    if let Some(first) = placement.cells().first() {
+        for x in placement.cells() {
+            cells.push(difference(*x, *first)).unwrap();
+        }
     }
-    *placement = Placement { cells, count };
+    Placement { cells }
 }
 
 // The member of a shape under a motion. Beyond the count of motions every image is (0,0,0), and so is the member.
@@ -99,7 +88,5 @@ pub fn member<L: Lattice>(lattice: &L, motion: u8, shape: &Shape) -> Placement
     ensures value { placement_cells result ≡ member_under (L.motions lattice.now) motion (shape_cells shape.now) }
     ensures image { motion < length (L.motions lattice.now) → placement_cells result ≡ moved (L.motions lattice.now) motion (shape_cells shape.now) }
 {
-    let mut placement = images(lattice, motion, shape);
-    shift(&mut placement);
-    placement
+    from_the_first(&images(lattice, motion, shape))
 }

@@ -1,34 +1,34 @@
 // Making a shape, and looking at its cells.
 ghost use Rattle.std.specs.Prelude.{◌≡◌, true, [], ◌∷◌, length};
-ghost use Rattle.lattice.specs.Cells.{origin, from_to, in_reach};
+ghost use Rattle.lattice.specs.Cells.{origin};
 ghost use Rattle.lattice.specs.Refusals.{refusal_number};
 ghost use Rattle.shapes.specs.Faults.{fault_number, fault_place, follows as in_order, cell_fault, unless, shape_or_fault};
-ghost use Rattle.shapes.specs.Shapes.{shape_cells, made as made_shape, wide};
+ghost use Rattle.shapes.specs.Shapes.{shape_cells, made as made_shape, wide, if_in_reach};
 
 use crate::coordinates::Coordinates;
 use crate::shape::Shape;
 use crate::shape_fault::ShapeFault;
 use lattice::cell::Cell;
 use lattice::refusal::Refusal;
+use ordered::array_list::ArrayList;
 use ordered::order::TotalOrder;
 
 // The most cells that a shape has.
 pub const MOST_CELLS: usize = 16;
 
-// How far from 0 a coordinate of a shape may be.
-const REACH: i16 = 15;
+impl From<ShapeFault> for Refusal {
+    ghost from_gives = { λ f e. refusal_number e ≡ fault_number f };
 
-impl ShapeFault {
-    pub fn refusal(self) -> Refusal
-        ensures { refusal_number result ≡ fault_number self }
-    {
-        match self {
+    fn from(fault: ShapeFault) -> Refusal {
+        match fault {
             ShapeFault::Count => Refusal::Size,
             ShapeFault::Reach(_) => Refusal::Reach,
             ShapeFault::Order(_) => Refusal::Order,
         }
     }
+}
 
+impl ShapeFault {
     // The place of the cell at fault, counted from 0; 0 for the count.
     pub fn place(self) -> usize
         ensures { result ≡ fault_place self }
@@ -41,39 +41,28 @@ impl ShapeFault {
     }
 }
 
-fn is_near(coordinate: i16) -> bool
-    ensures { result ≡ from_to 15 coordinate }
-{
-    -REACH <= coordinate && coordinate <= REACH
-}
+impl From<Cell> for Coordinates {
+    ghost from_gives = { λ x r. wide r ≡ x };
 
-// Every coordinate lies from −15 to 15.
-fn is_in_reach(x: Coordinates) -> bool
-    ensures { result ≡ in_reach (wide x) }
-{
-    is_near(x.a) && is_near(x.b) && is_near(x.c)
-}
-
-// The cell with these coordinates.
-fn narrowed(x: Coordinates) -> Cell
-    requires { in_reach (wide x) ≡ true }
-    ensures { result ≡ wide x }
-{
-    Cell {
-        a: x.a as i8,
-        b: x.b as i8,
-        c: x.c as i8,
+    fn from(x: Cell) -> Coordinates {
+        Coordinates {
+            a: i16::from(x.a),
+            b: i16::from(x.b),
+            c: i16::from(x.c),
+        }
     }
 }
 
-fn widened(x: Cell) -> Coordinates
-    ensures { wide result ≡ x }
+// The cell with these coordinates, if there is one and it is in reach.
+fn in_bounds(x: Coordinates) -> Option<Cell>
+    ensures { result ≡ if_in_reach (wide x) }
 {
-    Coordinates {
-        a: i16::from(x.a),
-        b: i16::from(x.b),
-        c: i16::from(x.c),
-    }
+    let cell = Cell {
+        a: i8::try_from(x.a).ok()?,
+        b: i8::try_from(x.b).ok()?,
+        c: i8::try_from(x.c).ok()?,
+    };
+    if cell.is_in_reach() { Some(cell) } else { None }
 }
 
 // The cell is the origin if it is the first, and otherwise greater than the one before.
@@ -91,10 +80,7 @@ fn follows(before: Option<Cell>, x: Cell) -> bool
 pub fn admit(place: usize, before: Option<Cell>, x: Coordinates) -> Result<Cell, ShapeFault>
     ensures { result ≡ unless (wide x) (cell_fault place before (wide x)) }
 {
-    if !is_in_reach(x) {
-        return Err(ShapeFault::Reach(place));
-    }
-    let cell = narrowed(x);
+    let cell = in_bounds(x).ok_or(ShapeFault::Reach(place))?;
     if follows(before, cell) {
         Ok(cell)
     } else {
@@ -110,33 +96,29 @@ impl Shape {
         if cells.is_empty() || cells.len() > MOST_CELLS {
             return Err(ShapeFault::Count);
         }
-        let mut slots = [Cell::ORIGIN; 16];
+        let mut admitted = ArrayList::new();
         let mut before = None;
         for (place, x) in cells.iter().enumerate() {
-            let cell = admit(place, before, widened(*x))?;
-            slots[place] = cell;
+            let cell = admit(place, before, Coordinates::from(*x))?;
+            admitted.push(cell).unwrap();
             before = Some(cell);
         }
-        Ok(Shape {
-            cells: slots,
-            count: cells.len(),
-        })
+        Ok(Shape { cells: admitted })
     }
 
     // (0,0,0) alone.
     pub fn single() -> Shape
         ensures { shape_cells result ≡ origin ∷ [] }
     {
-        Shape {
-            cells: [Cell::ORIGIN; 16],
-            count: 1,
-        }
+        let mut cells = ArrayList::new();
+        cells.push(Cell::ORIGIN).unwrap();
+        Shape { cells }
     }
 
     pub fn cells(&self) -> &[Cell]
         ensures { result.now ≡ shape_cells self.now }
     {
-        &self.cells[0..self.count]
+        self.cells.as_slice()
     }
 
     // How many cells it has.

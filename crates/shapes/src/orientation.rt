@@ -1,7 +1,7 @@
 // A member of a shape with a motion that makes it.
 use crate::placement::Placement;
 
-#[derive(Clone, Copy)]
+#[derive(Clone, Copy, Default)]
 pub struct Orientation {
     pub motion: u8,
     pub placement: Placement,

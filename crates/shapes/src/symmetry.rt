@@ -9,11 +9,11 @@ ghost use Rattle.shapes.specs.Shapes.{shape_cells};
 use crate::images::member;
 use crate::orbit::Orbit;
 use crate::orientation::Orientation;
-use crate::placement::Placement;
 use crate::shape::Shape;
 use lattice::cell::Cell;
 use lattice::lattice::Lattice;
 use lattice::motion_set::MotionSet;
+use ordered::array_list::ArrayList;
 use ordered::compare::compare;
 
 // Whether a motion of the lattice leaves the shape as it is.
@@ -42,30 +42,22 @@ impl Orbit {
     fn empty() -> Orbit
         ensures { orbit_list result ≡ [] }
     {
-        let placement = Placement {
-            cells: [Cell::ORIGIN; 16],
-            count: 0,
-        };
-        let none = Orientation {
-            motion: 0,
-            placement,
-        };
         Orbit {
-            orientations: [none; 48],
-            count: 0,
+            orientations: ArrayList::new(),
         }
     }
 
     pub fn as_slice(&self) -> &[Orientation]
         ensures { result.now ≡ orbit_list self.now }
     {
-        &self.orientations[0..self.count]
+        self.orientations.as_slice()
     }
 
     pub fn len(&self) -> usize
-        ensures { result ≡ length (orbit_list self.now) }
+        ensures value { result ≡ length (orbit_list self.now) }
+        ensures few { result ≤ 48 }
     {
-        self.as_slice().len()
+        self.orientations.len()
     }
 
     // Whether one of the orientations has these cells.
@@ -82,14 +74,12 @@ impl Orbit {
 
     // One orientation more, unless there is one with the same cells.
     fn add(&mut self, orientation: Orientation)
-        requires { self.old.count < 48 }
+        requires { length (orbit_list self.old) < 48 }
         ensures { orbit_list self.new ≡ (if some_pass (λ o. same_cells (placement_cells o.placement) (placement_cells orientation.placement)) (orbit_list self.old) then orbit_list self.old else orbit_list self.old ++ orientation ∷ []) }
     {
-        if self.has(orientation.placement.cells()) {
-            return;
+        if !self.has(orientation.placement.cells()) {
+            self.orientations.push(orientation).unwrap();
         }
-        self.orientations[self.count] = orientation;
-        self.count += 1;
     }
 }
 

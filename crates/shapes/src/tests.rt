@@ -1,6 +1,7 @@
 use crate::shape::Shape;
 use crate::shape_fault::ShapeFault;
 use lattice::cell::Cell;
+use lattice::refusal::Refusal;
 use std::process::Abort;
 
 fn cell(a: i8, b: i8, c: i8) -> Cell {
@@ -10,7 +11,7 @@ fn cell(a: i8, b: i8, c: i8) -> Cell {
 // The fault of the cells, with its refusal and place, is this one.
 fn refused(rt: &impl Abort, cells: &[Cell], fault: ShapeFault, refusal: u8, place: usize) {
     assert_eq!(rt; Shape::new(cells).err(), Some(fault));
-    assert_eq!(rt; fault.refusal().number(), refusal);
+    assert_eq!(rt; u8::from(Refusal::from(fault)), refusal);
     assert_eq!(rt; fault.place(), place);
 }
 

@@ -8,9 +8,9 @@ use Rattle.std.proofs.lemmas.Bool.{or_from, and_from, and_parts, cases_lt, cond-
 use Rattle.ordered.specs.Members.{In}
 use Rattle.ordered.proofs.Members.{in_cast, in_get_or, from_map}
 use Rattle.lattice.specs.declared.cell.Cell.{Cell}
-use Rattle.lattice.specs.Cells.{origin, cell_less, Within, within}
+use Rattle.lattice.specs.Cells.{origin, cell_less, Within, within, plus}
 use Rattle.lattice.specs.Coordinates.{within_says}
-use Rattle.shapes.specs.Positions.{plus, neighbours}
+use Rattle.shapes.specs.Positions.{neighbours}
 use Rattle.shapes.proofs.Bounds.{plus_within, within_more, within_test}
 use Rattle.walk.specs.Neighbourhoods.{Neighbourhood, on}
 use Rattle.walk.specs.Places.{put, put_all, spread, cell_at, after_pick, places_from, first_places}

@@ -1,7 +1,6 @@
 // Cells side by side, and above (0,0,0).
 ghost use Rattle.std.specs.Prelude.{◌≡◌};
-ghost use Rattle.lattice.specs.Cells.{origin, cell_less, Within};
-ghost use Rattle.shapes.specs.Positions.{plus};
+ghost use Rattle.lattice.specs.Cells.{origin, cell_less, Within, plus};
 ghost use Rattle.shapes.specs.Floods.{same_cell};
 
 use lattice::cell::Cell;

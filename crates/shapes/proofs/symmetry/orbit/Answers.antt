@@ -1,10 +1,10 @@
-use Rattle.std.proofs.Common.{◌≡◌, ℕ, ◌<◌, ◌≤◌, List, map, length, get_or, take, refl, ap, ◌∙◌, arith, length-take}
+use Rattle.std.proofs.Common.{◌≡◌, ℕ, ◌<◌, ◌≤◌, List, map, length, get_or, take, refl, ap, ◌∙◌, arith}
 use Rattle.std.proofs.lemmas.List.{take_all}
 use Rattle.lattice.specs.Kinds.{set_motions}
 use Rattle.shapes.specs.Shapes.{shape_cells}
 use Rattle.shapes.specs.Members.{usable, orientations, orbit_list, oriented}
 use Rattle.shapes.proofs.Members.{closed_usable}
-use Rattle.shapes.proofs.Orientations.{orbit_length, few_orientations, orientation_skipped, orientation_added}
+use Rattle.shapes.proofs.Orientations.{few_orientations, orientation_skipped, orientation_added}
 use Rattle.shapes.proofs.symmetry.orbit.Goals as goal
 use Rattle.shapes.proofs.symmetry.orbit.Goals.{then-motion-motion_count, else-motion-motion_count}
 
@@ -16,7 +16,7 @@ add-requires g c =
     let set = c.args.set.now in
     let ms = g.L.Lattice.motions c.args.lattice.now in
     let few = few_orientations ms (shape_cells c.args.shape.now) c.as_slice-motion-items.result.now c.loop-motion.motion-index c.loop-motion-test.true (orbit_list c.loop-motion.orbit) c.loop-motion.invariant in
-    omega (arith, few, orbit_length c.loop-motion.orbit, ap length c.as_slice-motion-items.ensures, length-take set.count set.motions, set.few)
+    omega (arith, few, ap length c.as_slice-motion-items.ensures, set.few)
 
 pub loop-motion-preserved : goal.loop-motion-preserved
 loop-motion-preserved g c =

@@ -21,7 +21,7 @@ loop-orientation-preserved c =
     let cells = c.args.cells.now in
     let p : Orientation → Bool = λ o. same_cells (placement_cells o.placement) cells in
     let x = c.orientation-item.result in
-    let test : p x ≡ false = ap (λ (l : List Cell). is_eq (comparison cell_less l cells)) (sym c.cells.ensures) ∙ ap is_eq (sym c.compare.ensures.value) ∙ sym c.if-is_eq.ensures in
+    let test : p x ≡ false = ap (λ (l : List Cell). is_eq (comparison cell_less l cells)) (sym c.cells.ensures.value) ∙ ap is_eq (sym c.compare.ensures.value) ∙ sym c.if-is_eq.ensures in
     sym (next p (orbit_list c.args.self.now) c.as_slice-orientation-items.result.now c.loop-orientation.orientation-index x false c.as_slice-orientation-items.ensures c.loop-orientation-test.true c.orientation-item.is test) ∙ c.loop-orientation.invariant
 
 pub returns-then-is_eq : goal.returns-then-is_eq
@@ -29,7 +29,7 @@ returns-then-is_eq c =
     let cells = c.args.cells.now in
     let p : Orientation → Bool = λ o. same_cells (placement_cells o.placement) cells in
     let x = c.orientation-item.result in
-    let test : p x ≡ true = ap (λ (l : List Cell). is_eq (comparison cell_less l cells)) (sym c.cells.ensures) ∙ ap is_eq (sym c.compare.ensures.value) ∙ sym c.if-is_eq.ensures in
+    let test : p x ≡ true = ap (λ (l : List Cell). is_eq (comparison cell_less l cells)) (sym c.cells.ensures.value) ∙ ap is_eq (sym c.compare.ensures.value) ∙ sym c.if-is_eq.ensures in
     sym (next p (orbit_list c.args.self.now) c.as_slice-orientation-items.result.now c.loop-orientation.orientation-index x true c.as_slice-orientation-items.ensures c.loop-orientation-test.true c.orientation-item.is test) ∙ c.loop-orientation.invariant
 
 pub returns : goal.returns

@@ -1,8 +1,8 @@
 use Rattle.std.proofs.Common.{◌≡◌, ◌+◌, ◌<◌, length, get_or, drop, sym, ap, ◌∙◌, subst, arith, length-take}
 use Rattle.std.proofs.lemmas.List.{drop_all, get_or-take}
 use Rattle.ordered.proofs.Members.{in_get_or}
-use Rattle.lattice.specs.Cells.{origin, Within}
-use Rattle.shapes.specs.Positions.{plus, neighbours}
+use Rattle.lattice.specs.Cells.{origin, Within, plus}
+use Rattle.shapes.specs.Positions.{neighbours}
 use Rattle.walk.specs.CellsAround.{cells_around}
 use Rattle.walk.specs.PlaceLists.{place_cells, directions_in}
 use Rattle.walk.specs.Places.{put, put_all}
