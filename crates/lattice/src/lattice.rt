@@ -15,6 +15,10 @@ pub trait Lattice {
 
     const MOTIONS: u8;
 
+    ghost DIRECTIONS: { ℕ };
+
+    ghost MOTIONS: { ℕ };
+
     ghost letters: { Self → List ℕ };
 
     ghost directions: { Self → List Cell };
@@ -26,17 +30,23 @@ pub trait Lattice {
     // What each lattice must prove.
     ghost rules: { (s : Self) → Rules (letters s) (directions s) (motions s) (onesided s) };
 
-    // The constant NAME.
+    // The constant NAME. Each lattice says so itself: a constant that is a reference has an address, so no ghost member can equal it.
     fn title(&self) -> &'static str
         ensures { result.now ≡ letters self.now };
 
     // The constant DIRECTIONS.
     fn direction_count(&self) -> u8
-        ensures { result ≡ length (directions self.now) };
+        ensures { result ≡ length (directions self.now) }
+    {
+        Self::DIRECTIONS
+    }
 
     // The constant MOTIONS.
     fn motion_count(&self) -> u8
-        ensures { result ≡ length (motions self.now) };
+        ensures { result ≡ length (motions self.now) }
+    {
+        Self::MOTIONS
+    }
 
     fn direction(&self, number: u8) -> Cell
         ensures { result ≡ direction_at (directions self.now) number };
@@ -51,4 +61,9 @@ pub trait Lattice {
 
     fn is_one_sided(&self, motion: u8) -> bool
         ensures { result ≡ in_one_sided (motions self.now) (onesided self.now) motion };
+
+    // Every lattice of the type has these numbers of directions and motions.
+    ghost direction_count_is: { (s : Self) → length (directions s) ≡ DIRECTIONS };
+
+    ghost motion_count_is: { (s : Self) → length (motions s) ≡ MOTIONS };
 }

@@ -1,5 +1,5 @@
 -- Images under the motions of the cubic lattice.
-use Rattle.std.proofs.Common.{◌≡◌, ℕ, zero, suc, ◌/◌, ◌%◌, ◌<◌, true, length, ◌*ℤ◌, sym, ap, ◌∙◌, zero-add, arith}
+use Rattle.std.proofs.Common.{◌≡◌, ℕ, zero, suc, ◌/◌, ◌%◌, ◌<◌, true, ◌*ℤ◌, sym, ap, ◌∙◌, zero-add, arith}
 use Rattle.std.proofs.lemmas.List.FromFn.{length-map-range_with_len, get_or-map-range_with_len}
 use Rattle.std.proofs.lemmas.Int.{ints}
 use Rattle.std.proofs.lemmas.Bool.{lt-ltb}
@@ -10,10 +10,6 @@ use Rattle.lattice.specs.Lattices.{image_under}
 use Rattle.lattice.specs.Coordinates.{cell_same}
 use Rattle.lattice.proofs.Products.{image_product}
 use Rattle.lattices.specs.Cubic.{order_of, sign, signs, cubic_motion, cubic_motions}
-
-pub cubic_count : length cubic_motions ≡ 48
-unfolding cubic_motions
-cubic_count = length-map-range_with_len cubic_motion 0 48
 
 pub image_in : (g : ℕ) (x : Cell) → g < 48 → in_reach x ≡ true → image_under cubic_motions g x ≡ image (signs (g % 8)) (image (order_of (g / 8)) x)
 unfolding cubic_motions cubic_motion

@@ -12,19 +12,11 @@ use Rattle.lattice.specs.Lattices.{image_under}
 use Rattle.lattice.specs.Coordinates.{cell_same}
 use Rattle.lattice.proofs.Products.{image_product, image_identity}
 use Rattle.lattices.specs.Plane.{swap, swaps, turns, plane_motion, plane_motions}
-use Rattle.lattices.specs.Square.{square_turn, square_motions}
-use Rattle.lattices.specs.Hex.{hex_turn, hex_motions}
+use Rattle.lattices.specs.Square.{square_turn}
+use Rattle.lattices.specs.Hex.{hex_turn}
 
 plane_count : (turn : Matrix) (n : ℕ) → length (plane_motions turn n) ≡ 2 * n
 plane_count turn n = length-map-range_with_len (plane_motion turn n) 0 (2 * n)
-
-pub square_count : length square_motions ≡ 8
-unfolding square_motions
-square_count = plane_count square_turn 4
-
-pub hex_count : length hex_motions ≡ 12
-unfolding hex_motions
-hex_count = plane_count hex_turn 6
 
 module _ (turn : Matrix) (n g : ℕ) (x : Cell) where
   -- in range and in reach

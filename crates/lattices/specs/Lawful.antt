@@ -1,5 +1,6 @@
 -- Proofs that the lattices keep the rules, each from one test that is computed. They define nothing that a contract means.
-use Rattle.std.specs.Prelude.{◌≡◌, ℕ, ◌-◌, ◌%◌, true, cond, nat_lt, refl}
+use Rattle.std.specs.Prelude.{◌≡◌, ℕ, ◌-◌, ◌%◌, true, cond, length, nat_lt, refl}
+use Rattle.std.proofs.lemmas.List.FromFn.{length-map-range_with_len}
 use Rattle.lattice.specs.Matrices.{image, row_times, product, identity, same_matrix}
 use Rattle.lattice.specs.Lattices.{number_after, Rules}
 use Rattle.lattice.proofs.Lawful.{lawful, rules, after_all}
@@ -15,6 +16,10 @@ square_lawful : lawful square_name square_directions (plane_motion square_turn 4
 unfolding lawful image product row_times identity same_matrix swap square_turn
 square_lawful = refl
 
+pub square_count : length square_motions ≡ 8
+unfolding square_motions
+square_count = length-map-range_with_len (plane_motion square_turn 4) 0 8
+
 pub square_rules : Rules square_name square_directions square_motions square_one_sided
 unfolding square_motions
 square_rules = rules square_name square_directions (plane_motion square_turn 4) 8 square_one_sided (plane_after 4) (plane_undo 4) square_lawful
@@ -26,6 +31,10 @@ square_after = after_all square_name square_directions (plane_motion square_turn
 hex_lawful : lawful hex_name hex_directions (plane_motion hex_turn 6) 12 hex_one_sided (plane_after 6) (plane_undo 6) ≡ true
 unfolding lawful image product row_times identity same_matrix swap hex_turn
 hex_lawful = refl
+
+pub hex_count : length hex_motions ≡ 12
+unfolding hex_motions
+hex_count = length-map-range_with_len (plane_motion hex_turn 6) 0 12
 
 pub hex_rules : Rules hex_name hex_directions hex_motions hex_one_sided
 unfolding hex_motions

@@ -1,10 +1,10 @@
 // The hex lattice.
-ghost use Rattle.std.specs.Prelude.{◌≡◌, ◌<◌, true};
+ghost use Rattle.std.specs.Prelude.{◌≡◌, ◌<◌, true, refl};
 ghost use Rattle.lattice.specs.Cells.{in_reach};
 ghost use Rattle.lattice.specs.Matrices.{image as carried};
 ghost use Rattle.lattices.specs.Plane.{turns};
 ghost use Rattle.lattices.specs.Hex.{hex_name, hex_directions, hex_turn, hex_motions, hex_one_sided};
-ghost use Rattle.lattices.specs.Lawful.{hex_rules};
+ghost use Rattle.lattices.specs.Lawful.{hex_count, hex_rules};
 
 use crate::plane::{number_after, swapped};
 use lattice::cell::Cell;
@@ -71,6 +71,10 @@ impl Lattice for Hex {
 
     const MOTIONS: u8 = 12;
 
+    ghost DIRECTIONS = { 6 };
+
+    ghost MOTIONS = { 12 };
+
     ghost letters = { λ _. hex_name };
 
     ghost directions = { λ _. hex_directions };
@@ -81,16 +85,12 @@ impl Lattice for Hex {
 
     ghost rules = { λ _. hex_rules };
 
+    ghost direction_count_is = { λ _. refl };
+
+    ghost motion_count_is = { λ _. hex_count };
+
     fn title(&self) -> &'static str {
         Self::NAME
-    }
-
-    fn direction_count(&self) -> u8 {
-        Self::DIRECTIONS
-    }
-
-    fn motion_count(&self) -> u8 {
-        Self::MOTIONS
     }
 
     fn direction(&self, number: u8) -> Cell {

@@ -1,10 +1,10 @@
 // The square lattice.
-ghost use Rattle.std.specs.Prelude.{◌≡◌, ◌<◌, true};
+ghost use Rattle.std.specs.Prelude.{◌≡◌, ◌<◌, true, refl};
 ghost use Rattle.lattice.specs.Cells.{in_reach};
 ghost use Rattle.lattice.specs.Matrices.{image as carried};
 ghost use Rattle.lattices.specs.Plane.{turns};
 ghost use Rattle.lattices.specs.Square.{square_name, square_directions, square_turn, square_motions, square_one_sided};
-ghost use Rattle.lattices.specs.Lawful.{square_rules};
+ghost use Rattle.lattices.specs.Lawful.{square_count, square_rules};
 
 use crate::plane::{number_after, swapped};
 use lattice::cell::Cell;
@@ -59,6 +59,10 @@ impl Lattice for Square {
 
     const MOTIONS: u8 = 8;
 
+    ghost DIRECTIONS = { 4 };
+
+    ghost MOTIONS = { 8 };
+
     ghost letters = { λ _. square_name };
 
     ghost directions = { λ _. square_directions };
@@ -69,16 +73,12 @@ impl Lattice for Square {
 
     ghost rules = { λ _. square_rules };
 
+    ghost direction_count_is = { λ _. refl };
+
+    ghost motion_count_is = { λ _. square_count };
+
     fn title(&self) -> &'static str {
         Self::NAME
-    }
-
-    fn direction_count(&self) -> u8 {
-        Self::DIRECTIONS
-    }
-
-    fn motion_count(&self) -> u8 {
-        Self::MOTIONS
     }
 
     fn direction(&self, number: u8) -> Cell {

@@ -2,7 +2,8 @@ use Rattle.std.proofs.Common.{sym, ap, ◌∙◌, arith}
 use Rattle.std.proofs.lemmas.Bool.Decides.{nat_tests}
 use Rattle.lattice.specs.Matrices.{image}
 use Rattle.lattices.specs.Cubic.{signs}
-use Rattle.lattices.proofs.Orders.{cubic_count, image_in}
+use Rattle.lattices.proofs.Orders.{image_in}
+use Rattle.lattices.specs.CubicTable.{cubic_count}
 use Rattle.lattices.proofs.cubic.CubicLattice.image.Goals as goal
 
 pub returns-then-motion-ge-MOTIONS : goal.returns-then-motion-ge-MOTIONS

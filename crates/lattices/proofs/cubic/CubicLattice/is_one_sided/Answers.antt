@@ -1,7 +1,7 @@
 use Rattle.std.proofs.Common.{arith}
 use Rattle.std.proofs.lemmas.Bool.Decides.{nat_tests}
 use Rattle.lattices.specs.Cubic.{cubic_one_sided}
-use Rattle.lattices.proofs.Orders.{cubic_count}
+use Rattle.lattices.specs.CubicTable.{cubic_count}
 use Rattle.lattices.proofs.cubic.CubicLattice.is_one_sided.Goals as goal
 use Rattle.lattices.proofs.cubic.CubicLattice.is_one_sided.Goals.{then-motion-lt3, else-motion-lt3}
 

@@ -1,8 +1,9 @@
 use Rattle.std.proofs.Common.{sym, ap, ◌∙◌, arith}
 use Rattle.std.proofs.lemmas.Bool.Decides.{nat_tests}
 use Rattle.lattice.specs.Matrices.{image}
-use Rattle.lattices.proofs.Turns.{hex_count, image_turn, image_swap}
+use Rattle.lattices.proofs.Turns.{image_turn, image_swap}
 use Rattle.lattices.specs.Plane.{turns}
+use Rattle.lattices.specs.Lawful.{hex_count}
 use Rattle.lattices.specs.Hex.{hex_turn, hex_motions}
 use Rattle.lattices.proofs.hex.HexLattice.image.Goals as goal
 

@@ -1,8 +1,9 @@
 use Rattle.std.proofs.Common.{sym, ap, ◌∙◌, arith}
 use Rattle.std.proofs.lemmas.Bool.Decides.{nat_tests}
 use Rattle.lattice.specs.Matrices.{image}
-use Rattle.lattices.proofs.Turns.{square_count, image_turn, image_swap}
+use Rattle.lattices.proofs.Turns.{image_turn, image_swap}
 use Rattle.lattices.specs.Plane.{turns}
+use Rattle.lattices.specs.Lawful.{square_count}
 use Rattle.lattices.specs.Square.{square_turn, square_motions}
 use Rattle.lattices.proofs.square.SquareLattice.image.Goals as goal
 

@@ -1,6 +1,6 @@
 use Rattle.std.proofs.Common.{arith}
 use Rattle.std.proofs.lemmas.Bool.Decides.{nat_tests}
-use Rattle.lattices.proofs.Turns.{square_count}
+use Rattle.lattices.specs.Lawful.{square_count}
 use Rattle.lattices.proofs.square.SquareLattice.is_one_sided.Goals as goal
 
 pub returns : goal.returns

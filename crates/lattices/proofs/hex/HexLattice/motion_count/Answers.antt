@@ -1,6 +1,0 @@
-use Rattle.std.proofs.Common.{sym}
-use Rattle.lattices.proofs.Turns.{hex_count}
-use Rattle.lattices.proofs.hex.HexLattice.motion_count.Goals as goal
-
-pub returns : goal.returns
-returns c = sym hex_count

@@ -1,6 +1,0 @@
-use Rattle.std.proofs.Common.{sym}
-use Rattle.lattices.proofs.Turns.{square_count}
-use Rattle.lattices.proofs.square.SquareLattice.motion_count.Goals as goal
-
-pub returns : goal.returns
-returns c = sym square_count
