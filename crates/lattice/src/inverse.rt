@@ -11,10 +11,7 @@ pub fn inverse<L: Lattice>(lattice: &L, motion: u8) -> u8
     ensures value { result ≡ inverse_number (L.motions lattice.now) motion }
     ensures undoes { motion < length (L.motions lattice.now) → (x : Cell) → carry (numbered (L.motions lattice.now) result) (carry (numbered (L.motions lattice.now) motion) x) ≡ x }
 {
-    for h in 0..lattice.motion_count() {
-        if lattice.after(h, motion) == 0 {
-            return h;
-        }
-    }
-    0
+    (0..lattice.motion_count())
+        .find(|h| lattice.after(*h, motion) == 0)
+        .unwrap_or(0)
 }

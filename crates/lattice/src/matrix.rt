@@ -10,6 +10,7 @@ use crate::rows::Rows;
 pub fn matrix<L: Lattice>(lattice: &L, motion: u8) -> Rows
     ensures { matrix_of result ≡ matrix_under (L.motions lattice.now) motion }
 {
+    // The images of the cells next to the origin are the columns. The rows are written out: the nine entries are nine fields, and no call is shorter.
     let x = lattice.image(motion, Cell { a: 1, b: 0, c: 0 });
     let y = lattice.image(motion, Cell { a: 0, b: 1, c: 0 });
     let z = lattice.image(motion, Cell { a: 0, b: 0, c: 1 });
