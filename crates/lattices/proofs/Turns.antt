@@ -15,7 +15,7 @@ use Rattle.lattices.specs.Plane.{swap, swaps, turns, plane_motion, plane_motions
 use Rattle.lattices.specs.Square.{square_turn}
 use Rattle.lattices.specs.Hex.{hex_turn}
 
-plane_count : (turn : Matrix) (n : ℕ) → length (plane_motions turn n) ≡ 2 * n
+pub plane_count : (turn : Matrix) (n : ℕ) → length (plane_motions turn n) ≡ 2 * n
 plane_count turn n = length-map-range_with_len (plane_motion turn n) 0 (2 * n)
 
 module _ (turn : Matrix) (n g : ℕ) (x : Cell) where

@@ -4,7 +4,7 @@ use Rattle.std.proofs.lemmas.List.FromFn.{length-map-range_with_len}
 use Rattle.lattice.specs.Matrices.{image, row_times, product, identity, same_matrix}
 use Rattle.lattice.specs.Lattices.{number_after, Rules}
 use Rattle.lattice.proofs.Lawful.{lawful, rules, after_all}
-use Rattle.lattices.specs.Plane.{swap, plane_motion, plane_after}
+use Rattle.lattices.specs.Plane.{swap, plane_motion, plane_motions, plane_after}
 use Rattle.lattices.specs.Square.{square_name, square_directions, square_turn, square_motions, square_one_sided}
 use Rattle.lattices.specs.Hex.{hex_name, hex_directions, hex_turn, hex_motions, hex_one_sided}
 
@@ -15,6 +15,10 @@ plane_undo n g = cond (nat_lt g n) ((n - g) % n) g
 square_lawful : lawful square_name square_directions (plane_motion square_turn 4) 8 square_one_sided (plane_after 4) (plane_undo 4) ≡ true
 unfolding lawful image product row_times identity same_matrix swap square_turn
 square_lawful = refl
+
+pub square_motions_are : square_motions ≡ plane_motions square_turn 4
+unfolding square_motions
+square_motions_are = refl
 
 pub square_count : length square_motions ≡ 8
 unfolding square_motions
@@ -31,6 +35,10 @@ square_after = after_all square_name square_directions (plane_motion square_turn
 hex_lawful : lawful hex_name hex_directions (plane_motion hex_turn 6) 12 hex_one_sided (plane_after 6) (plane_undo 6) ≡ true
 unfolding lawful image product row_times identity same_matrix swap hex_turn
 hex_lawful = refl
+
+pub hex_motions_are : hex_motions ≡ plane_motions hex_turn 6
+unfolding hex_motions
+hex_motions_are = refl
 
 pub hex_count : length hex_motions ≡ 12
 unfolding hex_motions

@@ -6,6 +6,7 @@ ghost use Rattle.lattices.specs.Cubic.{cubic_name, cubic_directions, order_of, s
 ghost use Rattle.lattices.specs.CubicTable.{cubic_count, cubic_rules};
 
 use crate::cubic_table::AFTER;
+use crate::directions::direction;
 use lattice::cell::Cell;
 use lattice::lattice::Lattice;
 
@@ -108,11 +109,7 @@ impl Lattice for Cubic {
     }
 
     fn direction(&self, number: u8) -> Cell {
-        if number < Self::DIRECTIONS {
-            STEPS[number as usize]
-        } else {
-            Cell::ORIGIN
-        }
+        direction(&STEPS, number)
     }
 
     fn image(&self, motion: u8, cell: Cell) -> Cell {

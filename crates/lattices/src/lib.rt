@@ -3,6 +3,7 @@
 
 pub mod cubic;
 mod cubic_table;
+mod directions;
 pub mod hex;
 pub mod known;
 pub mod names;

@@ -1,20 +1,16 @@
 // The square lattice.
-ghost use Rattle.std.specs.Prelude.{◌≡◌, ◌<◌, true, refl};
-ghost use Rattle.lattice.specs.Cells.{in_reach};
-ghost use Rattle.lattice.specs.Matrices.{image as carried};
-ghost use Rattle.lattices.specs.Plane.{turns};
+ghost use Rattle.std.specs.Prelude.{refl};
+ghost use Rattle.std.proofs.Common.{lit≤};
 ghost use Rattle.lattices.specs.Square.{square_name, square_directions, square_turn, square_motions, square_one_sided};
-ghost use Rattle.lattices.specs.Lawful.{square_count, square_rules};
+ghost use Rattle.lattices.specs.Lawful.{square_count, square_rules, square_motions_are, square_after};
 
-use crate::plane::{number_after, swapped};
+use crate::directions::direction;
+use crate::plane::{self, Turning};
 use lattice::cell::Cell;
 use lattice::lattice::Lattice;
 
 #[derive(Clone, Copy, PartialEq, Eq, Debug)]
 pub struct Square;
-
-// The number of turns in a full circle.
-const CIRCLE: u8 = 4;
 
 const STEPS: [Cell; 4] = [
     Cell { a: 1, b: 0, c: 0 },
@@ -23,32 +19,42 @@ const STEPS: [Cell; 4] = [
     Cell { a: 0, b: -1, c: 0 },
 ];
 
-fn turned(times: u8, x: Cell) -> Cell
-    requires count { times < 4 }
-    requires near { in_reach x ≡ true }
-    ensures { result ≡ carried (turns square_turn times) x }
-{
-    match times {
-        0 => Cell {
-            a: x.a,
-            b: x.b,
-            c: x.c,
-        },
-        1 => Cell {
-            a: -x.b,
-            b: x.a,
-            c: x.c,
-        },
-        2 => Cell {
-            a: -x.a,
-            b: -x.b,
-            c: x.c,
-        },
-        _ => Cell {
-            a: x.b,
-            b: -x.a,
-            c: x.c,
-        },
+impl Turning for Square {
+    const CIRCLE: u8 = 4;
+
+    ghost CIRCLE = { 4 };
+
+    ghost turn = { square_turn };
+
+    ghost motions = { square_motions };
+
+    ghost some = { lit≤ tt };
+
+    ghost few = { lit≤ tt };
+
+    ghost motions_are = { square_motions_are };
+
+    ghost after_is = { square_after };
+
+    fn turned(times: u8, x: Cell) -> Cell {
+        match times {
+            0 => x,
+            1 => Cell {
+                a: -x.b,
+                b: x.a,
+                c: x.c,
+            },
+            2 => Cell {
+                a: -x.a,
+                b: -x.b,
+                c: x.c,
+            },
+            _ => Cell {
+                a: x.b,
+                b: -x.a,
+                c: x.c,
+            },
+        }
     }
 }
 
@@ -82,29 +88,18 @@ impl Lattice for Square {
     }
 
     fn direction(&self, number: u8) -> Cell {
-        if number < Self::DIRECTIONS {
-            STEPS[number as usize]
-        } else {
-            Cell::ORIGIN
-        }
+        direction(&STEPS, number)
     }
 
     fn image(&self, motion: u8, cell: Cell) -> Cell {
-        if motion >= Self::MOTIONS || !cell.is_in_reach() {
-            return Cell::ORIGIN;
-        }
-        if motion < CIRCLE {
-            turned(motion, cell)
-        } else {
-            turned(motion - CIRCLE, swapped(cell))
-        }
+        plane::image::<Self>(motion, cell)
     }
 
     fn after(&self, g: u8, h: u8) -> u8 {
-        number_after(CIRCLE, g, h)
+        plane::after::<Self>(g, h)
     }
 
     fn is_one_sided(&self, motion: u8) -> bool {
-        motion < CIRCLE
+        plane::is_turn::<Self>(motion)
     }
 }

@@ -2,7 +2,7 @@ use Rattle.std.proofs.Common.{arith}
 use Rattle.std.proofs.lemmas.Int.{ints}
 use Rattle.lattice.specs.Coordinates.{within_says}
 use Rattle.lattices.proofs.Turns.{square_turned}
-use Rattle.lattices.proofs.square.turned.Goals as goal
+use Rattle.lattices.proofs.square.SquareTurning.turned.Goals as goal
 
 pub returns-in-0 : goal.returns-in-0
 returns-in-0 c =
