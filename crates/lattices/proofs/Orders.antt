@@ -4,11 +4,12 @@ use Rattle.std.proofs.lemmas.List.FromFn.{length-map-range_with_len, get_or-map-
 use Rattle.std.proofs.lemmas.Int.{ints}
 use Rattle.std.proofs.lemmas.Bool.{lt-ltb}
 use Rattle.lattice.specs.declared.cell.Cell.{Cell}
-use Rattle.lattice.specs.Cells.{cell, in_reach}
+use Rattle.lattice.specs.Cells.{cell, Within, in_reach}
 use Rattle.lattice.specs.Matrices.{image, identity}
 use Rattle.lattice.specs.Lattices.{image_under}
-use Rattle.lattice.specs.Coordinates.{cell_same}
+use Rattle.lattice.specs.Coordinates.{cell_same, within_says}
 use Rattle.lattice.proofs.Products.{image_product}
+use Rattle.lattices.proofs.Turns.{SameCoordinates}
 use Rattle.lattices.specs.Cubic.{order_of, sign, signs, cubic_motion, cubic_motions}
 
 pub image_in : (g : ℕ) (x : Cell) → g < 48 → in_reach x ≡ true → image_under cubic_motions g x ≡ image (signs (g % 8)) (image (order_of (g / 8)) x)
@@ -36,8 +37,8 @@ orders_are (suc (suc (suc (suc zero)))) x = cell_same (image (order_of 4) x) (or
 orders_are (suc (suc (suc (suc (suc p))))) x = cell_same (image (order_of (suc (suc (suc (suc (suc p)))))) x) (cell x.c x.b x.a) (omega (arith, ints)) (omega (arith, ints)) (omega (arith, ints))
 
 -- the cell y is x in the order p, coordinate by coordinate
-pub in_order : (order p : ℕ) → order ≡ p → (x y : Cell) → y.a ≡ (ordered_by p x).a → y.b ≡ (ordered_by p x).b → y.c ≡ (ordered_by p x).c → y ≡ image (order_of order) x
-in_order order p e x y q r s = rw e (cell_same y (ordered_by p x) q r s ∙ sym (orders_are p x))
+pub in_order : (order p : ℕ) → order ≡ p → (x : Cell) → in_reach x ≡ true → (y : Cell) → (Within 15 x → SameCoordinates y (ordered_by p x)) → y ≡ image (order_of order) x
+in_order order p e x near y same = let t = same (within_says 15 x near) in rw e (cell_same y (ordered_by p x) t.0 t.1 t.2 ∙ sym (orders_are p x))
 
 pub signs_are : (s : ℕ) (x : Cell) → image (signs s) x ≡ cell (sign (s % 2) *ℤ x.a) (sign (s / 2 % 2) *ℤ x.b) (sign (s / 4 % 2) *ℤ x.c)
 unfolding image

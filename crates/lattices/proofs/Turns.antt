@@ -6,10 +6,10 @@ use Rattle.std.proofs.lemmas.List.FromFn.{length-map-range_with_len, get_or-map-
 use Rattle.std.proofs.lemmas.Int.{ints}
 use Rattle.std.proofs.lemmas.Bool.{lt-ltb}
 use Rattle.lattice.specs.declared.cell.Cell.{Cell}
-use Rattle.lattice.specs.Cells.{cell, in_reach}
+use Rattle.lattice.specs.Cells.{cell, Within, in_reach}
 use Rattle.lattice.specs.Matrices.{Matrix, image, identity}
 use Rattle.lattice.specs.Lattices.{image_under}
-use Rattle.lattice.specs.Coordinates.{cell_same}
+use Rattle.lattice.specs.Coordinates.{cell_same, within_says}
 use Rattle.lattice.proofs.Products.{image_product, image_identity}
 use Rattle.lattices.specs.Plane.{swap, swaps, turns, plane_motion, plane_motions}
 use Rattle.lattices.specs.Square.{square_turn}
@@ -44,6 +44,9 @@ pub swap_is : (x : Cell) → image swap x ≡ cell x.b x.a x.c
 unfolding image swap
 swap_is x = cell_same (image swap x) (cell x.b x.a x.c) (omega (arith, ints)) (omega (arith, ints)) (omega (arith, ints))
 
+abbrev pub SameCoordinates : Cell → Cell → Type 0
+SameCoordinates y z = (y.a ≡ z.a) × (y.b ≡ z.b) × (y.c ≡ z.c)
+
 -- what one turn does, again and again
 abbrev pub turned_by : (Cell → Cell) → ℕ → Cell → Cell
 turned_by once zero x = x
@@ -68,9 +71,9 @@ unfolding image hex_turn
 hex_turn_is x = cell_same (image hex_turn x) (hex_once x) (omega (arith, ints)) (omega (arith, ints)) (omega (arith, ints))
 
 -- the cell y is x turned k times, coordinate by coordinate
-module _ (times k : ℕ) (e : times ≡ k) (x y : Cell) where
-  pub square_turned : y.a ≡ (turned_by square_once k x).a → y.b ≡ (turned_by square_once k x).b → y.c ≡ (turned_by square_once k x).c → y ≡ image (turns square_turn times) x
-  square_turned p q r = rw e (cell_same y (turned_by square_once k x) p q r ∙ sym (turns_are square_turn square_once square_turn_is k x))
+module _ (times k : ℕ) (e : times ≡ k) (x : Cell) (near : in_reach x ≡ true) (y : Cell) where
+  pub square_turned : (Within 15 x → SameCoordinates y (turned_by square_once k x)) → y ≡ image (turns square_turn times) x
+  square_turned same = let t = same (within_says 15 x near) in rw e (cell_same y (turned_by square_once k x) t.0 t.1 t.2 ∙ sym (turns_are square_turn square_once square_turn_is k x))
 
-  pub hex_turned : y.a ≡ (turned_by hex_once k x).a → y.b ≡ (turned_by hex_once k x).b → y.c ≡ (turned_by hex_once k x).c → y ≡ image (turns hex_turn times) x
-  hex_turned p q r = rw e (cell_same y (turned_by hex_once k x) p q r ∙ sym (turns_are hex_turn hex_once hex_turn_is k x))
+  pub hex_turned : (Within 15 x → SameCoordinates y (turned_by hex_once k x)) → y ≡ image (turns hex_turn times) x
+  hex_turned same = let t = same (within_says 15 x near) in rw e (cell_same y (turned_by hex_once k x) t.0 t.1 t.2 ∙ sym (turns_are hex_turn hex_once hex_turn_is k x))

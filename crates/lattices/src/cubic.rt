@@ -128,7 +128,8 @@ impl Lattice for Cubic {
 
     // Even orders of the coordinates go with an even number of signs, odd ones with an odd number.
     fn is_one_sided(&self, motion: u8) -> bool {
-        let wanted = if motion / 8 < 3 { 0 } else { 1 };
-        motion < Self::MOTIONS && (motion % 8).count_ones() % 2 == wanted
+        let has_odd_order = motion / 8 >= 3;
+        let has_odd_signs = (motion % 8).count_ones() % 2 == 1;
+        motion < Self::MOTIONS && has_odd_order == has_odd_signs
     }
 }

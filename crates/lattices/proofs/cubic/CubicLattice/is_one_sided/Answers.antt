@@ -3,13 +3,10 @@ use Rattle.std.proofs.lemmas.Bool.Decides.{nat_tests}
 use Rattle.lattices.specs.Cubic.{cubic_one_sided}
 use Rattle.lattices.specs.CubicTable.{cubic_count}
 use Rattle.lattices.proofs.cubic.CubicLattice.is_one_sided.Goals as goal
-use Rattle.lattices.proofs.cubic.CubicLattice.is_one_sided.Goals.{then-motion-lt3, else-motion-lt3}
 
 pub returns-then-motion-lt-MOTIONS : goal.returns-then-motion-lt-MOTIONS
 unfolding cubic_one_sided
-returns-then-motion-lt-MOTIONS c =
-    rw cubic_count
-    (elim c.if-motion-lt3.branch [ then-motion-lt3 w ↦ grind (arith, nat_tests, w.wanted-is, w.if-motion-lt3.true) | else-motion-lt3 w ↦ grind (arith, nat_tests, w.wanted-is, w.if-motion-lt3.false) ])
+returns-then-motion-lt-MOTIONS c = rw cubic_count (grind (arith, nat_tests))
 
 pub returns-else-motion-lt-MOTIONS : goal.returns-else-motion-lt-MOTIONS
 returns-else-motion-lt-MOTIONS c = rw cubic_count (grind (arith, nat_tests))
