@@ -1,8 +1,8 @@
 -- Images under the motions of a lattice of the plane, and what the turns of each do to a cell.
-use Rattle.std.proofs.Common.{◌≡◌, ℕ, zero, suc, ◌+◌, ◌-◌, ◌*◌, ◌/◌, ◌%◌, ◌<◌, ◌≤◌, true, length, ◌+ℤ◌, neg_ℤ, sym, ap, ◌∙◌, mod-eq_of_lt, zero-add, arith}
+use Rattle.std.proofs.Common.{◌≡◌, ℕ, zero, suc, ◌+◌, ◌-◌, ◌*◌, ◌/◌, ◌%◌, ◌<◌, ◌≤◌, true, ◌+ℤ◌, neg_ℤ, sym, ap, ◌∙◌, mod-eq_of_lt, zero-add, arith}
 use native.Mathlib.Nat.{div-eq_of_lt}
 use Rattle.std.proofs.lemmas.Nat.{div-mul-add, mod-mul-add}
-use Rattle.std.proofs.lemmas.List.FromFn.{length-map-range_with_len, get_or-map-range_with_len}
+use Rattle.std.proofs.lemmas.List.FromFn.{get_or-map-range_with_len}
 use Rattle.std.proofs.lemmas.Int.{ints}
 use Rattle.std.proofs.lemmas.Bool.{lt-ltb}
 use Rattle.lattice.specs.declared.cell.Cell.{Cell}
@@ -12,11 +12,9 @@ use Rattle.lattice.specs.Lattices.{image_under}
 use Rattle.lattice.specs.Coordinates.{cell_same, within_says}
 use Rattle.lattice.proofs.Products.{image_product, image_identity}
 use Rattle.lattices.specs.Plane.{swap, swaps, turns, plane_motion, plane_motions}
+use Rattle.lattices.specs.Lawful.{plane_count}
 use Rattle.lattices.specs.Square.{square_turn}
 use Rattle.lattices.specs.Hex.{hex_turn}
-
-pub plane_count : (turn : Matrix) (n : ℕ) → length (plane_motions turn n) ≡ 2 * n
-plane_count turn n = length-map-range_with_len (plane_motion turn n) 0 (2 * n)
 
 module _ (turn : Matrix) (n g : ℕ) (x : Cell) where
   -- in range and in reach

@@ -1,16 +1,28 @@
 -- Proofs that the lattices keep the rules, each from one test that is computed. They define nothing that a contract means.
-use Rattle.std.specs.Prelude.{◌≡◌, ℕ, ◌-◌, ◌%◌, true, cond, length, nat_lt, refl}
+use Rattle.std.specs.Prelude.{◌≡◌, ℕ, ◌-◌, ◌*◌, ◌%◌, Bool, true, cond, List, length, nat_lt, refl}
 use Rattle.std.proofs.lemmas.List.FromFn.{length-map-range_with_len}
-use Rattle.lattice.specs.Matrices.{image, row_times, product, identity, same_matrix}
+use Rattle.lattice.specs.declared.cell.Cell.{Cell}
+use Rattle.lattice.specs.Matrices.{Matrix, image, row_times, product, identity, same_matrix}
 use Rattle.lattice.specs.Lattices.{number_after, Rules}
 use Rattle.lattice.proofs.Lawful.{lawful, rules, after_all}
 use Rattle.lattices.specs.Plane.{swap, plane_motion, plane_motions, plane_after}
 use Rattle.lattices.specs.Square.{square_name, square_directions, square_turn, square_motions, square_one_sided}
 use Rattle.lattices.specs.Hex.{hex_name, hex_directions, hex_turn, hex_motions, hex_one_sided}
 
+pub plane_count : (turn : Matrix) (n : ℕ) → length (plane_motions turn n) ≡ 2 * n
+plane_count turn n = length-map-range_with_len (plane_motion turn n) 0 (2 * n)
+
 -- the turns undo one another, and a swap undoes itself
 abbrev plane_undo : ℕ → ℕ → ℕ
 plane_undo n g = cond (nat_lt g n) ((n - g) % n) g
+
+-- a lattice of the plane that passes the test
+module _ (name : List ℕ) (ds : List Cell) (turn : Matrix) (n : ℕ) (os : ℕ → Bool) (ok : lawful name ds (plane_motion turn n) (2 * n) os (plane_after n) (plane_undo n) ≡ true) where
+  plane_rules : Rules name ds (plane_motions turn n) os
+  plane_rules = rules name ds (plane_motion turn n) (2 * n) os (plane_after n) (plane_undo n) ok
+
+  plane_after_is : (g h : ℕ) → number_after (plane_motions turn n) g h ≡ plane_after n g h
+  plane_after_is = after_all name ds (plane_motion turn n) (2 * n) os (plane_after n) (plane_undo n) ok (λ g h e. rw e)
 
 square_lawful : lawful square_name square_directions (plane_motion square_turn 4) 8 square_one_sided (plane_after 4) (plane_undo 4) ≡ true
 unfolding lawful image product row_times identity same_matrix swap square_turn
@@ -22,15 +34,15 @@ square_motions_are = refl
 
 pub square_count : length square_motions ≡ 8
 unfolding square_motions
-square_count = length-map-range_with_len (plane_motion square_turn 4) 0 8
+square_count = plane_count square_turn 4
 
 pub square_rules : Rules square_name square_directions square_motions square_one_sided
 unfolding square_motions
-square_rules = rules square_name square_directions (plane_motion square_turn 4) 8 square_one_sided (plane_after 4) (plane_undo 4) square_lawful
+square_rules = plane_rules square_name square_directions square_turn 4 square_one_sided square_lawful
 
 pub square_after : (g h : ℕ) → number_after square_motions g h ≡ plane_after 4 g h
 unfolding square_motions
-square_after = after_all square_name square_directions (plane_motion square_turn 4) 8 square_one_sided (plane_after 4) (plane_undo 4) square_lawful (λ g h e. rw e)
+square_after = plane_after_is square_name square_directions square_turn 4 square_one_sided square_lawful
 
 hex_lawful : lawful hex_name hex_directions (plane_motion hex_turn 6) 12 hex_one_sided (plane_after 6) (plane_undo 6) ≡ true
 unfolding lawful image product row_times identity same_matrix swap hex_turn
@@ -42,12 +54,12 @@ hex_motions_are = refl
 
 pub hex_count : length hex_motions ≡ 12
 unfolding hex_motions
-hex_count = length-map-range_with_len (plane_motion hex_turn 6) 0 12
+hex_count = plane_count hex_turn 6
 
 pub hex_rules : Rules hex_name hex_directions hex_motions hex_one_sided
 unfolding hex_motions
-hex_rules = rules hex_name hex_directions (plane_motion hex_turn 6) 12 hex_one_sided (plane_after 6) (plane_undo 6) hex_lawful
+hex_rules = plane_rules hex_name hex_directions hex_turn 6 hex_one_sided hex_lawful
 
 pub hex_after : (g h : ℕ) → number_after hex_motions g h ≡ plane_after 6 g h
 unfolding hex_motions
-hex_after = after_all hex_name hex_directions (plane_motion hex_turn 6) 12 hex_one_sided (plane_after 6) (plane_undo 6) hex_lawful (λ g h e. rw e)
+hex_after = plane_after_is hex_name hex_directions hex_turn 6 hex_one_sided hex_lawful

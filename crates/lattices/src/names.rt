@@ -14,17 +14,21 @@ use lattice::refusal::Refusal;
 const LONGEST: usize = 9;
 
 // The lattice with this name; refused by 3 if there is none.
-pub fn known(name: &[u8]) -> Result<Known, Refusal>
-    ensures { answer (λ k. k) result ≡ named_lattice name.now }
-{
-    if name == Square::NAME.as_bytes() {
-        Ok(Known::Square)
-    } else if name == Hex::NAME.as_bytes() {
-        Ok(Known::Hex)
-    } else if name == Cubic::NAME.as_bytes() {
-        Ok(Known::Cubic)
-    } else {
-        Err(Refusal::Name)
+impl TryFrom<&[u8]> for Known {
+    type Error = Refusal;
+
+    ghost try_from_gives = { λ name told. answer (λ k. k) told ≡ named_lattice name.now };
+
+    fn try_from(name: &[u8]) -> Result<Known, Refusal> {
+        if name == Square::NAME.as_bytes() {
+            Ok(Known::Square)
+        } else if name == Hex::NAME.as_bytes() {
+            Ok(Known::Hex)
+        } else if name == Cubic::NAME.as_bytes() {
+            Ok(Known::Cubic)
+        } else {
+            Err(Refusal::Name)
+        }
     }
 }
 

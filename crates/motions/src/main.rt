@@ -15,7 +15,7 @@ use lattice::refusal::Refusal;
 use lattices::cubic::Cubic;
 use lattices::hex::Hex;
 use lattices::known::Known;
-use lattices::names::{known, name_on_line};
+use lattices::names::name_on_line;
 use lattices::square::Square;
 use std::io::{BufRead, BufReader, BufWriter, Read, Write};
 
@@ -39,7 +39,7 @@ fn run(rt: &HostRuntime) -> anyhow::Result<()> {
 }
 
 fn lattice_on_line(line: &[u8]) -> Result<Known, Refusal> {
-    known(name_on_line(line)?)
+    Known::try_from(name_on_line(line)?)
 }
 
 fn reason(refusal: Refusal) -> &'static str {

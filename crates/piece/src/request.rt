@@ -3,7 +3,6 @@ use crate::complaint::{Complaint, Field};
 use lattice::cell::Cell;
 use lattice::kind::Kind;
 use lattices::known::Known;
-use lattices::names::known;
 use shapes::coordinates::Coordinates;
 use shapes::making::admit;
 use shapes::shape::Shape;
@@ -39,7 +38,7 @@ pub(super) fn read_request(line: &[u8]) -> Result<Request, Complaint> {
     if fields.next().is_some() {
         return Err(Complaint::Form(Field::Surplus));
     }
-    let Ok(lattice) = known(name.as_bytes()) else {
+    let Ok(lattice) = Known::try_from(name.as_bytes()) else {
         return Err(Complaint::Name);
     };
     let Ok(kind) = Kind::named(kind.as_bytes()) else {

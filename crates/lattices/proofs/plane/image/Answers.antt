@@ -1,7 +1,8 @@
 use Rattle.std.proofs.Common.{◌-◌, sym, ap, ◌∙◌, arith}
 use Rattle.std.proofs.lemmas.Bool.Decides.{nat_tests}
 use Rattle.lattice.specs.Matrices.{image}
-use Rattle.lattices.proofs.Turns.{plane_count, image_turn, image_swap}
+use Rattle.lattices.proofs.Turns.{image_turn, image_swap}
+use Rattle.lattices.specs.Lawful.{plane_count}
 use Rattle.lattices.specs.Plane.{turns}
 use Rattle.lattices.proofs.plane.image.Goals as goal
 
