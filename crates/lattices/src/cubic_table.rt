@@ -1,4 +1,4 @@
-// The number of "g after h", in row g at place h.
+// The number of "g after h", in row g at place h. The project asks for the table; specs/CubicTable.antt proves it against the matrices.
 pub(crate) const AFTER: [[u8; 48]; 48] = [
     [
         0, 1, 2, 3, 4, 5, 6, 7, 8, 9, 10, 11, 12, 13, 14, 15, 16, 17, 18, 19, 20, 21, 22, 23, 24,
