@@ -1,5 +1,5 @@
 -- The steps of measuring cells, and of looking numbers up.
-use Rattle.std.proofs.Common.{◌≡◌, ℕ, ◌+◌, ◌<◌, ◌≤◌, Bool, true, false, cond, ◌&&◌, eqb, List, [], ◌∷◌, map, length, get_or, drop, ℤ, Decides, sym, refl, ap, ◌∙◌, ⊎_elim, arith}
+use Rattle.std.proofs.Common.{◌≡◌, ℕ, ◌+◌, ◌<◌, ◌≤◌, Bool, true, false, cond, eqb, List, map, length, get_or, drop, ℤ, Decides, sym, refl, ap, ◌∙◌, ⊎_elim, arith}
 use lib.Signed.{lt_z}
 use Rattle.std.specs.Int.{int_max}
 use Rattle.std.specs.List.{best_of}
@@ -11,19 +11,9 @@ use Rattle.ordered.proofs.Members.{in_cast}
 use Rattle.lattice.specs.declared.cell.Cell.{Cell}
 use Rattle.shapes.specs.Floods.{some_pass}
 use Rattle.shapes.proofs.Floods.{some_pass_says, some_pass_from}
-use Rattle.sources.specs.Conditions.{best, has_all}
 
 -- ---- the best so far, b, of what f tells of cells
 module _ (beats : ℤ → ℤ → Bool) (f : Cell → ℤ) where
-  same_either : (t : Bool) (z : ℤ) → cond t z z ≡ z
-  same_either true z = refl
-  same_either false z = refl
-
-  -- the first cell does not change it
-  pub best_first : (s : List Cell) (d : Cell) (b : ℤ) → 0 < length s → b ≡ f (get_or s 0 d) → best_of beats b (map f s) ≡ best beats f s
-  best_first [] d b l e = absurd (omega arith)
-  best_first (x ∷ xs) d b l e = rw e (ap (λ z. best_of beats z (map f xs)) (same_either (beats (f x) (f x)) (f x)))
-
   -- the next cell takes its place if it beats it
   pub best_more : (s : List Cell) (i : ℕ) (d : Cell) (b x m : ℤ) → i < length s → x ≡ f (get_or s i d) → m ≡ cond (beats x b) x b → best_of beats m (map f (drop (i + 1) s)) ≡ best_of beats b (map f (drop i s))
   best_more s i d b x m l e h =
@@ -38,14 +28,6 @@ greatest_more f s i d b x m l e h = best_more (λ y z. lt_z z y) f s i d b x m l
   where
     max_is : (y z : ℤ) → int_max y z ≡ cond (lt_z y z) z y
     max_is y z = grind (arith, ints)
-
--- ---- the numbers gs, of which those from place i on are not looked up yet
-module _ (gs hs : List ℕ) (i : ℕ) where
-  pub has_next : i < length gs → has_all (drop i gs) hs ≡ (some_pass (eqb (get_or gs i 0)) hs && has_all (drop (i + 1) gs) hs)
-  has_next l = at_drop_more (λ r. has_all r hs) gs i 0 l
-
-  pub has_rest : length gs ≤ i → has_all (drop i gs) hs ≡ true
-  has_rest l = at_drop_all (λ r. has_all r hs) gs i l
 
 -- what decides membership is the test of it
 pub decided : (g : ℕ) (hs : List ℕ) (r : Bool) → Decides r (In g hs) → r ≡ some_pass (eqb g) hs

@@ -1,5 +1,4 @@
 -- What the conditions pass. Assumes nothing.
---     along x y            the coordinate of the cell y on the axis x
 --     best beats f s       the f of a cell of s that no other beats, 0 if s has no cells
 --     greatest f s         the greatest f of a cell of s, 0 if s has no cells
 --     least f s            the least f of a cell of s, 0 if s has no cells
@@ -11,13 +10,6 @@ use Rattle.std.specs.List.{best_of, list_all}
 use Rattle.lattice.specs.declared.cell.Cell.{Cell}
 use Rattle.shapes.specs.Entries.{EntryValues}
 use Rattle.shapes.specs.Floods.{some_pass}
-use Rattle.sources.specs.declared.bounding_box.Axis.{Axis}
-use Rattle.sources.specs.declared.bounding_box.Axis.TheVariants.{A, B, C}
-
-abbrev pub along : Axis → Cell → ℤ
-along A y = y.a
-along B y = y.b
-along C y = y.c
 
 abbrev pub best : (ℤ → ℤ → Bool) → (Cell → ℤ) → List Cell → ℤ
 best beats f [] = pos 0

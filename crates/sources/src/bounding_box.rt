@@ -1,7 +1,8 @@
 // The condition that a shape fits into a box.
-ghost use Rattle.std.specs.Prelude.{◌≡◌};
+ghost use Rattle.std.specs.Prelude.{◌≡◌, ℤ};
+ghost use Rattle.lattice.specs.declared.cell.Cell.{Cell as CellValue};
 ghost use Rattle.shapes.specs.Shapes.{shape_cells};
-ghost use Rattle.sources.specs.Conditions.{along, extent as extent_of, fits};
+ghost use Rattle.sources.specs.Conditions.{extent as extent_of, fits};
 
 use crate::condition::Condition;
 use lattice::cell::Cell;
@@ -16,32 +17,16 @@ pub struct BoundingBox {
     pub d: u8,
 }
 
-#[derive(Clone, Copy)]
-enum Axis {
-    A,
-    B,
-    C,
-}
-
-fn coordinate(cell: Cell, axis: Axis) -> i8
-    ensures { result ≡ along axis cell }
-{
-    match axis {
-        Axis::A => cell.a,
-        Axis::B => cell.b,
-        Axis::C => cell.c,
-    }
-}
-
 // The greatest coordinate minus the least, plus 1.
-fn extent(shape: &Shape, axis: Axis) -> i16
-    ensures { result ≡ extent_of (along axis) (shape_cells shape.now) }
+fn extent<F: Fn(Cell) -> i8>(shape: &Shape, along: F) -> i16
+    requires { F.IsAlwaysCallable along }
+    ensures { (f : CellValue → ℤ) → ((x : CellValue) (z : ℤ) → F.post along x z → z ≡ f x) → result ≡ extent_of f (shape_cells shape.now) }
 {
     let cells = shape.cells();
-    let mut least = coordinate(cells[0], axis);
+    let mut least = along(cells[0]);
     let mut greatest = least;
     for cell in cells {
-        let x = coordinate(*cell, axis);
+        let x = along(*cell);
         least = least.min(x);
         greatest = greatest.max(x);
     }
@@ -52,8 +37,9 @@ impl Condition for BoundingBox {
     ghost passing = { λ b e. fits b.w b.h b.d e };
 
     fn passes(&self, entry: &Entry) -> bool {
-        extent(&entry.shape, Axis::A) <= i16::from(self.w)
-            && extent(&entry.shape, Axis::B) <= i16::from(self.h)
-            && extent(&entry.shape, Axis::C) <= i16::from(self.d)
+        let wide = extent(&entry.shape, |cell| cell.a);
+        let high = extent(&entry.shape, |cell| cell.b);
+        let deep = extent(&entry.shape, |cell| cell.c);
+        wide <= i16::from(self.w) && high <= i16::from(self.h) && deep <= i16::from(self.d)
     }
 }

@@ -24,12 +24,8 @@ impl Condition for Symmetry<'_> {
     ghost passing = { λ s e. has_all s.motions.now e.motions };
 
     fn passes(&self, entry: &Entry) -> bool {
-        let stabiliser = &entry.stabiliser;
-        for motion in self.motions {
-            if !stabiliser.contains(*motion) {
-                return false;
-            }
-        }
-        true
+        self.motions
+            .iter()
+            .all(|motion| entry.stabiliser.contains(*motion))
     }
 }

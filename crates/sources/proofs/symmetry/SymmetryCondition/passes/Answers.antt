@@ -1,26 +1,13 @@
-use Rattle.std.proofs.Common.{◌+◌, true, false, ◌&&◌, get_or, drop, sym, ap, ◌∙◌, arith}
+use Rattle.std.proofs.Common.{eqb, rules}
+use borrow.Author.Tests.{tests}
+use Rattle.std.proofs.lemmas.Iterator.{YieldsList-from_slice}
+use Rattle.std.proofs.lemmas.Iterator.Search.{all_from_yields_List}
 use Rattle.lattice.specs.Kinds.{set_motions}
-use Rattle.sources.specs.Conditions.{has_all}
-use Rattle.sources.proofs.Conditions.{has_next, has_rest, decided}
+use Rattle.shapes.specs.Floods.{some_pass}
+use Rattle.sources.proofs.Conditions.{decided}
 use Rattle.sources.proofs.symmetry.SymmetryCondition.passes.Goals as goal
-
-pub loop-motion-preserved : goal.loop-motion-preserved
-loop-motion-preserved c =
-    let gs = c.args.self.now.motions.now in
-    let hs = set_motions c.args.entry.now.stabiliser in
-    let i = c.loop-motion.motion-index in
-    ap (λ t. t && has_all (drop (i + 1) gs) hs) (decided (get_or gs i 0) hs true c.if-not-contains.ensures) ∙ sym (has_next gs hs i (omega arith)) ∙ c.loop-motion.invariant
-
-pub returns-then-not-contains : goal.returns-then-not-contains
-returns-then-not-contains c =
-    let gs = c.args.self.now.motions.now in
-    let hs = set_motions c.args.entry.now.stabiliser in
-    let i = c.loop-motion.motion-index in
-    ap (λ t. t && has_all (drop (i + 1) gs) hs) (decided (get_or gs i 0) hs false c.if-not-contains.ensures) ∙ sym (has_next gs hs i (omega arith)) ∙ c.loop-motion.invariant
 
 pub returns : goal.returns
 returns c =
-    let gs = c.args.self.now.motions.now in
     let hs = set_motions c.args.entry.now.stabiliser in
-    let i = c.loop-motion.motion-index in
-    sym (has_rest gs hs i c.loop-motion-test.false) ∙ c.loop-motion.invariant
+    all_from_yields_List (λ g. some_pass (eqb g) hs) _ _ _ c.all.ensures.ran (YieldsList-from_slice c.args.self.now.motions.now cc) (λ x b q k. (search (rules, tests), decided x.now hs b (search (rules, tests))))
