@@ -3,7 +3,7 @@ ghost use Rattle.std.specs.Prelude.{◌≡◌, ℕ, ◌+◌, ◌≤◌, List, �
 ghost use Rattle.std.specs.Fmt.{signed_decimal};
 ghost use Rattle.ordered.specs.Lookups.{over};
 ghost use Rattle.catalogue.specs.Text.{cell_text};
-ghost use Rattle.catalogue.specs.Writers.{GoesOn};
+ghost use Rattle.catalogue.specs.Writers.{behind};
 
 use crate::numbers::{number_length, put_number, put_signed, signed_length};
 use lattice::cell::Cell;
@@ -27,7 +27,7 @@ pub(crate) trait Item {
 pub(crate) fn put_behind<T: Item>(buffer: &mut [u8], at: usize, mark: u8, item: &T) -> usize
     requires { at + (1 + length (T.text item.now)) ≤ length buffer.old }
     ensures value { result ≡ at + (1 + length (T.text item.now)) }
-    ensures after { GoesOn at (mark ∷ T.text item.now) buffer.old buffer.new }
+    ensures after { buffer.new ≡ behind at (mark ∷ T.text item.now) buffer.old }
 {
     buffer[at] = mark;
     at + 1 + item.put(&mut buffer[at + 1..])
@@ -45,16 +45,16 @@ impl Item for u64 {
     }
 }
 
-// A motion number.
+// A motion number, written as the u64 that it is.
 impl Item for u8 {
     ghost text = { decimal };
 
     fn text_length(&self) -> usize {
-        number_length(u64::from(*self))
+        u64::from(*self).text_length()
     }
 
     fn put(&self, rest: &mut [u8]) -> usize {
-        put_number(rest, u64::from(*self))
+        u64::from(*self).put(rest)
     }
 }
 

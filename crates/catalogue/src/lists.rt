@@ -1,6 +1,6 @@
 // List fields: items parted by one space.
 ghost use Rattle.std.specs.Prelude.{◌≡◌, ◌+◌, ◌*◌, ◌≤◌, map, length};
-ghost use Rattle.catalogue.specs.Writers.{GoesOn, led};
+ghost use Rattle.catalogue.specs.Writers.{behind, led};
 
 use crate::items::{Item, put_behind};
 
@@ -10,6 +10,7 @@ pub(crate) fn list_length<T: Item>(items: &[T]) -> usize
     ensures value { result ≡ length (led 9 (map T.text items.now)) }
     ensures few { result ≤ 21 * length items.now }
 {
+    // not `map(..).sum()`: with it the proof has no bound on each length, and `few` did not close
     let mut total = 0;
     for item in items {
         total += 1 + item.text_length();
@@ -21,13 +22,14 @@ pub(crate) fn list_length<T: Item>(items: &[T]) -> usize
 pub(crate) fn put_list<T: Item>(buffer: &mut [u8], at: usize, items: &[T]) -> usize
     requires { at + length (led 9 (map T.text items.now)) ≤ length buffer.old }
     ensures value { result ≡ at + length (led 9 (map T.text items.now)) }
-    ensures after { GoesOn at (led 9 (map T.text items.now)) buffer.old buffer.new }
+    ensures after { buffer.new ≡ behind at (led 9 (map T.text items.now)) buffer.old }
 {
-    let mut end = at;
-    let mut mark = b'\t';
-    for item in items {
-        end = put_behind(buffer, end, mark, item);
-        mark = b' ';
+    let Some((first, rest)) = items.split_first() else {
+        return at;
+    };
+    let mut end = put_behind(buffer, at, b'\t', first);
+    for item in rest {
+        end = put_behind(buffer, end, b' ', item);
     }
     end
 }

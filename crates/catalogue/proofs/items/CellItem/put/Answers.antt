@@ -1,6 +1,8 @@
-use Rattle.std.proofs.Common.{◌≡◌, ◌∷◌, ◌++◌, length, arith, length-append}
+use Rattle.std.proofs.Common.{◌≡◌, ◌+◌, ◌∷◌, ◌++◌, length, ap, ◌∙◌, arith, length-append}
 use Rattle.std.specs.Fmt.{signed_decimal}
-use Rattle.catalogue.proofs.Marks.{length_cell, goes_over}
+use Rattle.catalogue.specs.Writers.{behind}
+use Rattle.catalogue.proofs.Over.{behind_more}
+use Rattle.catalogue.proofs.Texts.{length_cell}
 use Rattle.catalogue.proofs.items.CellItem.put.Goals as goal
 
 pub put-at-requires : goal.put-at-requires
@@ -18,9 +20,13 @@ returns c =
     let first = c.put-at.ensures in
     let second = c.put_behind-at.ensures in
     let third = c.put_behind.ensures in
-    let two = goes_over (signed_decimal x.a) c.args.rest.now c.put-at.new.rest first.after c.put-at.result (44 ∷ signed_decimal x.b) c.put_behind-at.new.buffer first.value second.after in
-    let long : c.put_behind-at.result ≡ length (signed_decimal x.a ++ (44 ∷ signed_decimal x.b)) = omega (arith, first.value, second.value, length-append (signed_decimal x.a) (44 ∷ signed_decimal x.b)) in
+    let xs = c.args.rest.now in
+    let b = 44 ∷ signed_decimal x.b in
+    let d = 44 ∷ signed_decimal x.c in
+    let two : c.put_behind-at.new.buffer ≡ behind 0 (signed_decimal x.a ++ b) xs =
+    second.after ∙ ap (behind c.put-at.result b) first.after ∙ behind_more 0 c.put-at.result (signed_decimal x.a) b xs (omega arith) (omega (arith, first.value)) in
+    let long : c.put_behind-at.result ≡ 0 + length (signed_decimal x.a ++ b) = omega (arith, first.value, second.value, length-append (signed_decimal x.a) b) in
     record {
       value = omega (arith, length_cell x, first.value, second.value, third.value);
-      after = goes_over (signed_decimal x.a ++ (44 ∷ signed_decimal x.b)) c.args.rest.now c.put_behind-at.new.buffer two c.put_behind-at.result (44 ∷ signed_decimal x.c) c.put_behind.new.buffer long third.after;
+      after = third.after ∙ ap (behind c.put_behind-at.result d) two ∙ behind_more 0 c.put_behind-at.result (signed_decimal x.a ++ b) d xs (omega arith) long;
     }

@@ -1,7 +1,7 @@
 use Rattle.std.proofs.Common.{◌≡◌, length, ap, arith, w8, to_z, of_z, rules}
 use Rattle.std.specs.Fmt.{signed_decimal}
 use Rattle.std.proofs.lemmas.Int.{to_z-of_z}
-use Rattle.catalogue.proofs.Marks.{length_cell}
+use Rattle.catalogue.proofs.Texts.{length_cell}
 use Rattle.catalogue.proofs.items.CellItem.text_length.Goals as goal
 
 pub returns : goal.returns
