@@ -45,7 +45,7 @@ impl Item for u64 {
     }
 }
 
-// A motion number, written as the u64 that it is.
+// A motion number, written as the u64 that it is. One impl for every `Into<u64>` would stand in the way of those for i8 and Cell.
 impl Item for u8 {
     ghost text = { decimal };
 

@@ -1,11 +1,16 @@
 -- The shape that a search shows.
-use Rattle.std.proofs.Common.{◌≡◌, ◌≤◌, leb, length, Ok, Err, ap, ◌∙◌, arith}
+use Rattle.std.proofs.Common.{◌≡◌, ℕ, ◌≤◌, leb, List, length, Ok, Err, Result, sym, refl, ap, ◌∙◌, arith}
 use Rattle.std.specs.List.{AllByRecursion}
+use Rattle.std.specs.Result.{IsOk}
 use Rattle.std.proofs.lemmas.Bool.{le-leb, cond-true}
 use Rattle.ordered.proofs.Members.{all_from_in}
 use Rattle.lattice.specs.Cells.{Within}
+use Rattle.shapes.specs.declared.shape.Shape.{Shape}
+use Rattle.shapes.specs.declared.shape_fault.ShapeFault.{ShapeFault}
 use Rattle.shapes.specs.declared.shape_fault.ShapeFault.TheVariants.{Count}
 use Rattle.shapes.specs.Faults.{unless, shape_or_fault, arranged_or_fault}
+use Rattle.shapes.specs.Shapes.{made, shape_cells}
+use Rattle.lattice.specs.declared.cell.Cell.{Cell}
 use Rattle.walk.specs.declared.search.Search.{Search}
 use Rattle.walk.specs.CellsAround.{cells_around}
 use Rattle.walk.specs.Lawful.{Lawful}
@@ -27,3 +32,11 @@ shown_arranged s h =
     let few : length (cells_of g (shown s)) ≤ 16 = omega (arith, length_cells g (first_places g) (shown s), h.0, s.trail.few) in
     cond-true (leb (length (cells_of g (shown s))) 16) (shape_or_fault (shape_of ds (shown s))) (Err Count) (le-leb _ _ few)
     ∙ ap (unless (shape_of ds (shown s))) (lawful_no_fault ds (search_size s) (shown s) short (size_some s) s.trail.few h)
+
+-- what was made with these cells is a shape
+pub made_ok : (r : Result Shape ShapeFault) (s : List Cell) → made r ≡ Ok s → IsOk r
+made_ok (Ok x) s e = refl
+made_ok (Err f) s e = let z : ◌≡◌ {A = ℕ} 0 1 = cc in absurd (omega arith)
+
+pub made_is : (r : Result Shape ShapeFault) (x : Shape) (s : List Cell) → r ≡ Ok x → made r ≡ Ok s → shape_cells x ≡ s
+made_is r x s is e = let same : ◌≡◌ {A = Result (List Cell) ShapeFault} (Ok (shape_cells x)) (Ok s) = sym (ap made is) ∙ e in cc

@@ -29,10 +29,7 @@ fn shown_shape(search: &Search) -> Shape
     requires { Lawful (cells_around (search_directions search.now)) (search_size search.now) (shown_picks search.now) }
     ensures { shape_cells result ≡ shape_of (search_directions search.now) (shown_picks search.now) }
 {
-    match Shape::arranged(search.cells()) {
-        Ok(shape) => shape,
-        Err(_) => unreachable(),
-    }
+    Shape::arranged(search.cells()).unwrap()
 }
 
 impl<L: Lattice> Source for Lister<L> {

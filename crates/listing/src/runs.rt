@@ -35,7 +35,7 @@ fn one_call<L: Lattice, T: Listing<L>>(lister: &mut T, call: Call) -> Answer
     }
 }
 
-// Makes nexts, and writes the answers down.
+// Makes nexts, and writes the answers down. Not one function with make_calls over a closure: the loops are one line, and their laws differ.
 fn make_nexts<S: Source>(
     source: &mut S,
     nexts: usize,
@@ -69,7 +69,7 @@ fn make_calls<L: Lattice, T: Listing<L>>(
 
 // The law of whole runs. A lister is opened and given the calls one by one; a pile of sieves, or any other source, is given nexts.
 // Each answer is written down; what the two lists held before is gone. Where memory runs out, the law holds of the answers
-// written down, which are those to the first calls.
+// written down, which are those to the first calls. Lattice, size and kind stand apart, as a lister is opened by them as numbers.
 pub fn transcribe<L: Lattice, T: Listing<L> + Drop, P: Source>(
     lattice: L,
     size: usize,

@@ -25,6 +25,7 @@ fn extent<F: Fn(Cell) -> i8>(shape: &Shape, along: F) -> i16
     let cells = shape.cells();
     let mut least = along(cells[0]);
     let mut greatest = least;
+    // not two chains with max() and min(): that they may call `along` at each turn was tried, and did not close
     for cell in cells {
         let x = along(*cell);
         least = least.min(x);
