@@ -1,8 +1,7 @@
 -- What a write behind the start of a text leaves: the text grows, and what lies behind it stays.
-use Rattle.std.proofs.Common.{◌≡◌, ℕ, ◌+◌, ◌-◌, ◌<◌, ◌≤◌, List, [], ◌∷◌, ◌++◌, length, take, drop, set, sym, ap, ◌∙◌, append_assoc, append-nil, add-one, arith, length-append, drop-cons}
-use borrow.Rule.Slice.PartMut.{put_mid}
+use Rattle.std.proofs.Common.{◌≡◌, ℕ, ◌+◌, ◌<◌, ◌≤◌, List, [], ◌∷◌, ◌++◌, length, take, drop, set, sym, ap, ◌∙◌, append_assoc, add-one, arith, length-append, drop-cons}
 use lib.Seq.{set-append_seam, drop-append-add}
-use Rattle.std.proofs.lemmas.List.{drop_all, take_all, drop-drop, take_at, drop_at, take-append-drop, length-take-le}
+use Rattle.std.proofs.lemmas.List.{drop-drop, take_at, length-take-le}
 use Rattle.ordered.specs.Lookups.{over}
 use Rattle.catalogue.specs.Writers.{behind}
 
@@ -10,19 +9,6 @@ pub over_byte : (p xs ys : List ℕ) (n b : ℕ) → ys ≡ over p xs → length
 over_byte p xs ys n b e l h =
     let h' : length p < length xs = omega (arith, l) in
     rw (e, ← l, drop-cons xs (length p) 0, set-append_seam, append_assoc, length-append, add-one)
-
-pub over_part : (p q xs ys zs : List ℕ) (n k : ℕ) → ys ≡ over p xs → length p ≡ n → n ≤ length xs → k ≡ length ys - n → zs ≡ over q (take k (drop n ys)) → put_mid n k ys zs ≡ over (p ++ q) xs
-over_part p q xs ys zs n k e l h ek ez =
-    let d : List ℕ = drop (length p) xs in
-    let et : take n ys ≡ p = rw e (take_at p d n l) in
-    let ed : drop n ys ≡ d = rw e (drop_at p d n l) in
-    let lk : length d ≤ k = omega (arith, ek, l, simp length-append at (ap length e)) in
-    let ez' : zs ≡ over q d = rw (ed, take_all) at ez in
-    rw (et, ed, drop_all, append-nil, ez', append_assoc, length-append, drop-drop)
-
--- nothing written behind the start
-pub behind_none : (at : ℕ) (xs : List ℕ) → at ≤ length xs → xs ≡ behind at [] xs
-behind_none at xs h = rw (append-nil, length-take-le at xs h, take-append-drop)
 
 -- one text written behind another is one text
 pub behind_more : (at n : ℕ) (bs cs xs : List ℕ) → at ≤ length xs → n ≡ at + length bs → behind n cs (behind at bs xs) ≡ behind at (bs ++ cs) xs

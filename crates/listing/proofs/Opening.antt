@@ -3,11 +3,9 @@ use Rattle.std.proofs.Common.{◌≡◌, ℕ, ◌≤◌, Bool, true, false, cond
 use Rattle.std.proofs.lemmas.Bool.{and_parts, leb-true}
 use Rattle.lattice.specs.declared.cell.Cell.{Cell}
 use Rattle.lattice.specs.declared.kind.Kind.{Kind}
-use Rattle.lattice.specs.declared.refusal.Refusal.{Refusal}
 use Rattle.lattice.specs.Kinds.{Closed, numbered_kind, kind_motions, motions_or_refusal, numbered_motions}
 use Rattle.lattice.specs.Lattices.{Rules}
 use Rattle.lattice.specs.Matrices.{Matrix}
-use Rattle.lattice.specs.Refusals.{refusal_number}
 use Rattle.lattice.proofs.Uses.{kind_closed}
 use Rattle.shapes.specs.Classes.{ClassLaws}
 use Rattle.shapes.proofs.Classes.{classes_hold}
@@ -17,11 +15,6 @@ use Rattle.listing.specs.Openings.{Opening, opening, with_set, opening_for, Open
 pub opened_by : {X : Type 0} (x : Result Opening ℕ) (s : X) (P : X → Opening → Type 0) → Opened x (Ok s) P → (o : Opening) × (x ≡ Ok o) × P s o
 opened_by (Ok o) s P h = (o, refl, h)
 opened_by (Err n) s P h = absurd h
-
--- a refusal is the opening's
-pub refused_by : {X : Type 0} (x : Result Opening ℕ) (e : Refusal) (P : X → Opening → Type 0) → Opened x (Err e) P → x ≡ Err (refusal_number e)
-refused_by (Ok o) e P h = absurd h
-refused_by (Err n) e P h = ap Err (sym h)
 
 module _ (name : List ℕ) (ds : List Cell) (ms : List Matrix) (os : ℕ → Bool) (r : Rules name ds ms os) where
   set_closed : (k : Result Kind ℕ) (gs : List ℕ) → motions_or_refusal ms os k ≡ Ok gs → Closed ms gs

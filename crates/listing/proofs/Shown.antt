@@ -1,5 +1,5 @@
 -- The shape that a search shows.
-use Rattle.std.proofs.Common.{◌≡◌, ℕ, ◌≤◌, leb, List, length, Ok, Err, Result, sym, refl, ap, ◌∙◌, arith}
+use Rattle.std.proofs.Common.{◌≡◌, ℕ, ◌≤◌, leb, List, length, Ok, Err, Result, refl, ap, ◌∙◌, arith}
 use Rattle.std.specs.List.{AllByRecursion}
 use Rattle.std.specs.Result.{IsOk}
 use Rattle.std.proofs.lemmas.Bool.{le-leb, cond-true}
@@ -9,7 +9,7 @@ use Rattle.shapes.specs.declared.shape.Shape.{Shape}
 use Rattle.shapes.specs.declared.shape_fault.ShapeFault.{ShapeFault}
 use Rattle.shapes.specs.declared.shape_fault.ShapeFault.TheVariants.{Count}
 use Rattle.shapes.specs.Faults.{unless, shape_or_fault, arranged_or_fault}
-use Rattle.shapes.specs.Shapes.{made, shape_cells}
+use Rattle.shapes.specs.Shapes.{made}
 use Rattle.lattice.specs.declared.cell.Cell.{Cell}
 use Rattle.walk.specs.declared.search.Search.{Search}
 use Rattle.walk.specs.CellsAround.{cells_around}
@@ -37,6 +37,3 @@ shown_arranged s h =
 pub made_ok : (r : Result Shape ShapeFault) (s : List Cell) → made r ≡ Ok s → IsOk r
 made_ok (Ok x) s e = refl
 made_ok (Err f) s e = let z : ◌≡◌ {A = ℕ} 0 1 = cc in absurd (omega arith)
-
-pub made_is : (r : Result Shape ShapeFault) (x : Shape) (s : List Cell) → r ≡ Ok x → made r ≡ Ok s → shape_cells x ≡ s
-made_is r x s is e = let same : ◌≡◌ {A = Result (List Cell) ShapeFault} (Ok (shape_cells x)) (Ok s) = sym (ap made is) ∙ e in cc

@@ -1,25 +1,8 @@
-use Rattle.std.proofs.Common.{◌≡◌, suc, ◌+◌, ◌≤◌, ◌∷◌, ◌++◌, map, length, take, sym, ap, ◌∙◌, append-nil, arith, length-append, rules}
-use Rattle.std.specs.List.{flat_map}
-use Rattle.std.proofs.lemmas.List.{take_all}
+use Rattle.std.proofs.Common.{◌≡◌, suc, ◌+◌, ◌≤◌, ◌∷◌, ◌++◌, map, length, take, sym, ap, ◌∙◌, arith, length-append, rules}
 use Rattle.catalogue.specs.Writers.{behind, led}
 use Rattle.catalogue.proofs.Over.{behind_more}
 use Rattle.catalogue.proofs.Texts.{led_more, led_room}
 use Rattle.catalogue.proofs.lists.put_list.Goals as goal
-
-pub put_behind-end-requires : goal.put_behind-end-requires
-put_behind-end-requires g c =
-    let f = g.T.Item.text in
-    let x = c.in-Some.first.now in
-    let is : c.args.items.now ≡ x ∷ c.in-Some.rest.now = search rules in
-    omega (arith, c.requires, ap (λ ys. length (led 9 (map f ys))) is, length-append (9 ∷ f x) (flat_map (λ u. 32 ∷ u) (map f c.in-Some.rest.now)))
-
-pub loop-item-init : goal.loop-item-init
-loop-item-init g c =
-    let f = g.T.Item.text in
-    let x = c.in-Some.first.now in
-    let is : c.args.items.now ≡ x ∷ c.in-Some.rest.now = search rules in
-    let one : led 9 (map f (take 1 c.args.items.now)) ≡ 9 ∷ f x = ap (λ ys. led 9 (map f (take 1 ys))) is ∙ append-nil (9 ∷ f x) in
-    (omega (arith, c.put_behind-end.ensures.value, ap length one), c.put_behind-end.ensures.after ∙ ap (λ bs. behind c.args.at bs c.args.buffer.now) (sym one))
 
 pub put_behind-end-requires-in-loop-item : goal.put_behind-end-requires-in-loop-item
 put_behind-end-requires-in-loop-item g c =
@@ -54,16 +37,3 @@ loop-item-preserved g c =
       omega (arith, k.0, new.value, ap length more, length-append so_far (32 ∷ f y)),
       new.after ∙ ap (behind c.loop-item.end (32 ∷ f y)) k.1 ∙ behind_more c.args.at c.loop-item.end so_far (32 ∷ f y) xs room k.0 ∙ ap (λ bs. behind c.args.at bs xs) more,
     )
-
-pub returns : goal.returns
-returns g c =
-    let f = g.T.Item.text in
-    let x = c.in-Some.first.now in
-    let k = c.loop-item.invariant in
-    let is : c.args.items.now ≡ x ∷ c.in-Some.rest.now = search rules in
-    let all : take (suc c.loop-item.item-index) c.args.items.now ≡ c.args.items.now =
-    ap (take (suc c.loop-item.item-index)) is ∙ ap (λ r. x ∷ r) (take_all c.loop-item.item-index c.in-Some.rest.now c.loop-item-test.false) ∙ sym is in
-    record {
-      value = k.0 ∙ ap (λ ys. c.args.at + length (led 9 (map f ys))) all;
-      after = k.1 ∙ ap (λ ys. behind c.args.at (led 9 (map f ys)) c.args.buffer.now) all;
-    }
