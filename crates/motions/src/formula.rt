@@ -21,16 +21,14 @@ struct Sum(Cell);
 
 impl fmt::Display for Sum {
     fn fmt<W: fmt::Write>(&self, f: &mut fmt::Formatter<W>) -> fmt::Result {
-        let Cell { a, b, c } = self.0;
-        let mut first = true;
-        for (factor, letter) in [(a, 'a'), (b, 'b'), (c, 'c')] {
-            if factor != 0 {
-                write_term(f, first, factor, letter)?;
-                first = false;
-            }
+        if self.0 == Cell::ORIGIN {
+            return write!(f, "0");
         }
-        if first {
-            write!(f, "0")?;
+        let Cell { a, b, c } = self.0;
+        let terms = [(a, 'a'), (b, 'b'), (c, 'c')];
+        let written = terms.iter().filter(|(factor, _)| *factor != 0);
+        for (place, (factor, letter)) in written.enumerate() {
+            write_term(f, place == 0, *factor, *letter)?;
         }
         Ok(())
     }

@@ -5,7 +5,6 @@ mod formula;
 #[cfg(test)]
 mod tests;
 
-use anyhow::anyhow;
 use formula::Formula;
 use lattice::cell::Cell;
 use lattice::inverse::inverse;
@@ -17,24 +16,22 @@ use lattices::hex::Hex;
 use lattices::known::Known;
 use lattices::names::name_on_line;
 use lattices::square::Square;
+use std::error::Error;
+use std::fmt;
 use std::io::{BufRead, BufReader, BufWriter, Read, Write};
 
 // A name has at most 9 bytes, and then the line's end: no line of more bytes names a lattice.
 const LONGEST_LINE: u64 = 10;
 
 fn main(rt: HostRuntime) -> anyhow::Result<()> {
-    run(&rt)
-}
-
-fn run(rt: &HostRuntime) -> anyhow::Result<()> {
     let mut line = Vec::new(rt.alloc());
     let mut input = BufReader::new(rt.alloc(), rt.stdin().take(LONGEST_LINE))?;
     input.read_until(b'\n', &mut line)?;
-    match lattice_on_line(line.as_slice()) {
-        Ok(Known::Square) => print_lattice(rt, &Square),
-        Ok(Known::Hex) => print_lattice(rt, &Hex),
-        Ok(Known::Cubic) => print_lattice(rt, &Cubic),
-        Err(refusal) => Err(anyhow!("{}", reason(refusal))),
+    // Each arm prints at another type, which only a `match` can choose.
+    match lattice_on_line(line.as_slice()).map_err(Unnamed)? {
+        Known::Square => print_lattice(&rt, &Square),
+        Known::Hex => print_lattice(&rt, &Hex),
+        Known::Cubic => print_lattice(&rt, &Cubic),
     }
 }
 
@@ -42,12 +39,24 @@ fn lattice_on_line(line: &[u8]) -> Result<Known, Refusal> {
     Known::try_from(name_on_line(line)?)
 }
 
-fn reason(refusal: Refusal) -> &'static str {
-    match refusal {
-        Refusal::Name =>
-            "refused (3): no lattice has this name; the known names are square, hex and cubic",
-        _ =>
-            "refused (9): the input must be one line, a lattice's name of 1 to 9 bytes and the line's end",
+// Why a line names no lattice.
+#[derive(Clone, Copy, Debug)]
+struct Unnamed(Refusal);
+
+impl Error for Unnamed {}
+
+impl fmt::Display for Unnamed {
+    fn fmt<W: fmt::Write>(&self, f: &mut fmt::Formatter<W>) -> fmt::Result {
+        match self.0 {
+            Refusal::Name => write!(
+                f,
+                "refused (3): no lattice has this name; the known names are square, hex and cubic"
+            ),
+            _ => write!(
+                f,
+                "refused (9): the input must be one line, a lattice's name of 1 to 9 bytes and the line's end"
+            ),
+        }
     }
 }
 
@@ -58,7 +67,6 @@ fn print_lattice<L: Lattice>(rt: &HostRuntime, lattice: &L) -> anyhow::Result<()
         let Cell { a, b, c } = lattice.direction(number);
         writeln!(out, "direction {number}: ({a}, {b}, {c})")?;
     }
-    let mut one_sided = 0u8;
     for number in 0..lattice.motion_count() {
         let formula = Formula(matrix(lattice, number));
         let back = inverse(lattice, number);
@@ -71,8 +79,10 @@ fn print_lattice<L: Lattice>(rt: &HostRuntime, lattice: &L) -> anyhow::Result<()
             out,
             "motion {number}: (a, b, c) to {formula}, inverse {back}{side}"
         )?;
-        one_sided = one_sided.saturating_add(u8::from(lattice.is_one_sided(number)));
     }
+    let one_sided = (0..lattice.motion_count())
+        .filter(|number| lattice.is_one_sided(*number))
+        .count();
     writeln!(
         out,
         "{} directions and {} motions printed, {one_sided} of them one-sided",

@@ -13,13 +13,12 @@ use std::test::Fail;
 // The images of (1,2,3) under each motion in turn, and (0,0,0) beyond the last and out of reach.
 fn check_images<L: Lattice>(rt: &impl Abort, lattice: &L, images: &[(i8, i8)]) {
     let x = Cell { a: 1, b: 2, c: 3 };
-    let mut motion = 0u8;
-    for (a, b) in images {
+    let count = lattice.motion_count();
+    assert_eq!(rt; usize::from(count), images.len());
+    for (motion, (a, b)) in (0..count).zip(images) {
         assert_eq!(rt; lattice.image(motion, x), Cell { a: *a, b: *b, c: 3 });
-        motion = motion.saturating_add(1);
     }
-    assert_eq!(rt; lattice.motion_count(), motion);
-    assert_eq!(rt; lattice.image(motion, x), Cell::ORIGIN);
+    assert_eq!(rt; lattice.image(count, x), Cell::ORIGIN);
     assert_eq!(rt; lattice.image(0, Cell { a: 16, b: 0, c: 0 }), Cell::ORIGIN);
     assert_eq!(rt;
         lattice.image(
@@ -84,25 +83,16 @@ fn products(rt: HostRuntime) {
 
 #[test]
 fn kinds(rt: HostRuntime) -> Result<(), Fail> {
-    let kept = motions_of_kind(&Cubic, 1);
-    let Ok(one_sided) = kept else {
-        return Err(Fail::new("one-sided is a kind"))
-    };
+    let one_sided = motions_of_kind(&Cubic, 1).map_err(|_| Fail::new("one-sided is a kind"))?;
     assert_eq!(rt; one_sided.len(), 24);
     assert!(rt; one_sided.contains(25));
     assert!(rt; !one_sided.contains(1));
-    let Ok(free) = motions_of_kind(&Hex, 2) else {
-        return Err(Fail::new("free is a kind"))
-    };
+    let free = motions_of_kind(&Hex, 2).map_err(|_| Fail::new("free is a kind"))?;
     assert_eq!(rt; free.len(), 12);
-    let Ok(fixed) = motions_of_kind(&Square, 0) else {
-        return Err(Fail::new("fixed is a kind"))
-    };
+    let fixed = motions_of_kind(&Square, 0).map_err(|_| Fail::new("fixed is a kind"))?;
     assert_eq!(rt; fixed.len(), 1);
-    let Err(refusal) = motions_of_kind(&Square, 3) else {
-        return Err(Fail::new("3 is no kind"))
-    };
-    assert_eq!(rt; refusal.number(), 2);
+    let refusal = motions_of_kind(&Square, 3).err();
+    assert_eq!(rt; refusal.map(Refusal::number), Some(2));
     Ok(())
 }
 
