@@ -12,6 +12,7 @@ use crate::cell::Cell;
 use ordered::filler::Filler;
 use ordered::order::TotalOrder;
 use std::cmp::Ordering;
+use std::fmt;
 
 // How far from 0 a coordinate may be for a lattice to answer.
 const REACH: i8 = 15;
@@ -83,5 +84,13 @@ impl Cell {
         ensures { result ≡ in_reach self }
     {
         is_near(self.a) && is_near(self.b) && is_near(self.c)
+    }
+}
+
+// As a text has it: `1,0,0`.
+impl fmt::Display for Cell {
+    fn fmt<W: fmt::Write>(&self, f: &mut fmt::Formatter<W>) -> fmt::Result {
+        let Cell { a, b, c } = *self;
+        write!(f, "{a},{b},{c}")
     }
 }

@@ -2,6 +2,7 @@
 #![tactic(auto)]
 
 pub mod calls;
+mod display;
 pub mod lister;
 pub mod listers;
 pub mod listings;

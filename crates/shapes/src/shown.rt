@@ -1,32 +1,25 @@
 // Cells and numbers in print.
-use lattice::cell::Cell;
+use crate::shape::Shape;
 use std::fmt;
 
-// Cells as a text has them: `0,0,0 1,0,0`.
+// Items, parted by spaces.
 #[derive(Clone, Copy)]
-pub struct Cells<'a>(pub &'a [Cell]);
+pub struct Spaced<'a, T>(pub &'a [T]);
 
-impl fmt::Display for Cells<'_> {
+impl<T: fmt::Display> fmt::Display for Spaced<'_, T> {
     fn fmt<W: fmt::Write>(&self, f: &mut fmt::Formatter<W>) -> fmt::Result {
-        for (i, x) in self.0.iter().enumerate() {
-            let Cell { a, b, c } = *x;
+        for (i, item) in self.0.iter().enumerate() {
             let gap = if i == 0 { "" } else { " " };
-            write!(f, "{gap}{a},{b},{c}")?;
+            write!(f, "{gap}{item}")?;
         }
         Ok(())
     }
 }
 
-// Numbers, parted by spaces.
-#[derive(Clone, Copy)]
-pub struct Numbers<'a, T>(pub &'a [T]);
-
-impl<T: fmt::Display> fmt::Display for Numbers<'_, T> {
+// Its cells as a text has them: `0,0,0 1,0,0`.
+impl fmt::Display for Shape {
     fn fmt<W: fmt::Write>(&self, f: &mut fmt::Formatter<W>) -> fmt::Result {
-        for (i, number) in self.0.iter().enumerate() {
-            let gap = if i == 0 { "" } else { " " };
-            write!(f, "{gap}{number}")?;
-        }
-        Ok(())
+        let cells = Spaced(self.cells());
+        write!(f, "{cells}")
     }
 }
