@@ -1,5 +1,9 @@
 // Why a line is refused, in words.
+ghost use Rattle.std.specs.Prelude.{◌≡◌};
+ghost use Rattle.piece.specs.declared.complaint.Complaint.TheVariants.{Shape as no_shape, Memory as no_memory};
+
 use shapes::shape_fault::ShapeFault;
+use std::alloc::AllocFailed;
 use std::fmt;
 
 #[derive(Clone, Copy)]
@@ -8,6 +12,23 @@ pub enum Complaint {
     Name,
     Kind,
     Shape(ShapeFault),
+    Memory,
+}
+
+impl From<ShapeFault> for Complaint {
+    ghost from_gives = { λ e r. r ≡ no_shape e };
+
+    fn from(fault: ShapeFault) -> Complaint {
+        Complaint::Shape(fault)
+    }
+}
+
+impl<T: Drop> From<AllocFailed<T>> for Complaint {
+    ghost from_gives = { λ _ r. r ≡ no_memory };
+
+    fn from(_refused: AllocFailed<T>) -> Complaint {
+        Complaint::Memory
+    }
 }
 
 // The part of the line that is not in its form.
@@ -24,7 +45,7 @@ pub enum Field {
 impl fmt::Display for Complaint {
     fn fmt<W: fmt::Write>(&self, f: &mut fmt::Formatter<W>) -> fmt::Result {
         match *self {
-            Complaint::Form(field) => write_form(f, field),
+            Complaint::Form(field) => write!(f, "refused (9): {field}"),
             Complaint::Name => write!(
                 f,
                 "refused (3): no lattice has this name; the known names are square, hex and cubic"
@@ -50,23 +71,23 @@ impl fmt::Display for Complaint {
                     "refused (5): cell {place} is not greater than the one before (cells count from 0)"
                 )
             }
+            Complaint::Memory => write!(f, "there is no memory for the cells"),
         }
     }
 }
 
-fn write_form<W: fmt::Write>(f: &mut fmt::Formatter<W>, field: Field) -> fmt::Result {
-    match field {
-        Field::Line => write!(f, "refused (9): the line is empty, too long or has no end"),
-        Field::Name => write!(
-            f,
-            "refused (9): field 1, the lattice's name, is missing or empty"
-        ),
-        Field::Kind => write!(f, "refused (9): field 2, the kind, is missing or empty"),
-        Field::Cells => write!(f, "refused (9): field 3, the cells, is missing or empty"),
-        Field::Cell(place) => write!(
-            f,
-            "refused (9): in field 3, cell {place} is not in the form 0,0,0 (cells count from 0)"
-        ),
-        Field::Surplus => write!(f, "refused (9): there is a field too many"),
+impl fmt::Display for Field {
+    fn fmt<W: fmt::Write>(&self, f: &mut fmt::Formatter<W>) -> fmt::Result {
+        match *self {
+            Field::Line => write!(f, "the line is empty, too long or has no end"),
+            Field::Name => write!(f, "field 1, the lattice's name, is missing or empty"),
+            Field::Kind => write!(f, "field 2, the kind, is missing or empty"),
+            Field::Cells => write!(f, "field 3, the cells, is missing or empty"),
+            Field::Cell(place) => write!(
+                f,
+                "in field 3, cell {place} is not in the form 0,0,0 (cells count from 0)"
+            ),
+            Field::Surplus => write!(f, "there is a field too many"),
+        }
     }
 }

@@ -21,28 +21,23 @@ use std::io::{BufRead, BufReader, Read};
 const LONGEST_LINE: u64 = 4096;
 
 fn main(rt: HostRuntime) -> anyhow::Result<()> {
-    run(&rt)
-}
-
-fn run(rt: &HostRuntime) -> anyhow::Result<()> {
     let mut line = Vec::new(rt.alloc());
     let mut input = BufReader::new(rt.alloc(), rt.stdin().take(LONGEST_LINE))?;
     input.read_until(b'\n', &mut line)?;
-    match read_request(line.as_slice()) {
-        Ok(request) => answer(rt, &request),
-        Err(complaint) => refuse(rt, complaint),
+    match read_request(rt.alloc(), line.as_slice()) {
+        Ok(request) => answer(&rt, &request),
+        Err(complaint) => {
+            eprintln!(rt; "{complaint}")?;
+            Err(anyhow!("the piece is refused"))
+        }
     }
 }
 
+// Each arm prints at another type, which only a `match` can choose.
 fn answer(rt: &HostRuntime, request: &Request) -> anyhow::Result<()> {
     match request.lattice {
         Known::Square => print_piece(rt, &Square, request.kind, &request.shape),
         Known::Hex => print_piece(rt, &Hex, request.kind, &request.shape),
         Known::Cubic => print_piece(rt, &Cubic, request.kind, &request.shape),
     }
-}
-
-fn refuse(rt: &HostRuntime, complaint: Complaint) -> anyhow::Result<()> {
-    eprintln!(rt; "{complaint}")?;
-    Err(anyhow!("the piece is refused"))
 }

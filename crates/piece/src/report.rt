@@ -7,7 +7,7 @@ use lattice::motion_set::MotionSet;
 use shapes::flooding::is_connected;
 use shapes::representative::least_member;
 use shapes::shape::Shape;
-use shapes::shown::{Cells, Numbers};
+use shapes::shown::Spaced;
 use shapes::symmetry::{orbit, orbit_size, stabiliser};
 use std::io;
 use std::io::{BufWriter, Write};
@@ -19,17 +19,11 @@ pub(super) fn print_piece<L: Lattice>(
     kind: Kind,
     shape: &Shape,
 ) -> anyhow::Result<()> {
-    let Ok(set) = motions_of_kind(lattice, kind.number()) else {
-        return Err(anyhow!("the kind has no motions"));
-    };
+    let set = motions_of_kind(lattice, kind.number()).map_err(|_| anyhow!(
+        "the kind has no motions"
+    ))?;
     let mut out = BufWriter::new(rt.alloc(), rt.stdout())?;
-    writeln!(
-        out,
-        "piece {} on {}, {}",
-        Cells(shape.cells()),
-        lattice.title(),
-        kind.word()
-    )?;
+    writeln!(out, "piece {shape} on {}, {}", lattice.title(), kind.word())?;
     write_walk(&mut out, lattice, shape)?;
     write_class(&mut out, lattice, &set, shape)?;
     write_orientations(&mut out, lattice, &set, shape)?;
@@ -46,7 +40,7 @@ fn write_walk<L: Lattice, O: Write>(out: &mut O, lattice: &L, shape: &Shape) -> 
     };
     writeln!(out, "size {}\nconnected: {connected}", shape.size())?;
     match pick_list(lattice, shape) {
-        Some(list) => writeln!(out, "pick list: {}", Numbers(list.picks())),
+        Some(list) => writeln!(out, "pick list: {}", Spaced(list.picks())),
         None => writeln!(out, "pick list: none, since the piece is not connected"),
     }
 }
@@ -59,13 +53,13 @@ fn write_class<L: Lattice, O: Write>(
     shape: &Shape,
 ) -> io::Result<()> {
     match least_member(lattice, set, shape) {
-        Some(least) => writeln!(out, "least member: {}", Cells(least.cells()))?,
+        Some(least) => writeln!(out, "least member: {least}")?,
         None => writeln!(out, "least member: none, since the piece is not connected")?,
     }
     writeln!(
         out,
         "stabiliser: {}",
-        Numbers(stabiliser(lattice, set, shape).as_slice())
+        Spaced(stabiliser(lattice, set, shape).as_slice())
     )?;
     writeln!(out, "orbit size: {}", orbit_size(lattice, set, shape))
 }
@@ -81,7 +75,7 @@ fn write_orientations<L: Lattice, O: Write>(
             out,
             "orientation by motion {}: {}",
             orientation.motion,
-            Cells(orientation.placement.cells())
+            Spaced(orientation.placement.cells())
         )?;
     }
     Ok(())

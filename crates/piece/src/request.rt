@@ -4,11 +4,10 @@ use lattice::cell::Cell;
 use lattice::kind::Kind;
 use lattices::known::Known;
 use shapes::coordinates::Coordinates;
-use shapes::making::admit;
+use shapes::making::{MOST_CELLS, admit};
 use shapes::shape::Shape;
 use shapes::shape_fault::ShapeFault;
-
-const MOST: usize = 16;
+use std::alloc::Global;
 
 #[derive(Clone, Copy)]
 pub struct Request {
@@ -17,64 +16,34 @@ pub struct Request {
     pub shape: Shape,
 }
 
-// The first 16 of the cells that were read, and how many there were.
-#[derive(Clone, Copy)]
-struct CellList {
-    first: [Coordinates; 16],
-    count: usize,
-}
-
-pub(super) fn read_request(line: &[u8]) -> Result<Request, Complaint> {
-    let Ok(text) = std::str::from_utf8(line) else {
-        return Err(Complaint::Form(Field::Line));
-    };
-    let Some(text) = text.strip_suffix('\n') else {
-        return Err(Complaint::Form(Field::Line));
-    };
+pub(super) fn read_request(heap: Global, line: &[u8]) -> Result<Request, Complaint> {
+    let text = std::str::from_utf8(line).map_err(|_| Complaint::Form(Field::Line))?;
+    let text = text.strip_suffix('\n').ok_or(Complaint::Form(Field::Line))?;
     let mut fields = text.split('\t');
     let name = full(fields.next(), Field::Name)?;
     let kind = full(fields.next(), Field::Kind)?;
-    let cells = read_cells(full(fields.next(), Field::Cells)?)?;
+    let cells = read_cells(heap, full(fields.next(), Field::Cells)?)?;
     if fields.next().is_some() {
         return Err(Complaint::Form(Field::Surplus));
     }
-    let Ok(lattice) = Known::try_from(name.as_bytes()) else {
-        return Err(Complaint::Name);
-    };
-    let Ok(kind) = Kind::named(kind.as_bytes()) else {
-        return Err(Complaint::Kind);
-    };
-    match make_shape(&cells) {
-        Ok(shape) => Ok(Request {
-            lattice,
-            kind,
-            shape,
-        }),
-        Err(fault) => Err(Complaint::Shape(fault)),
-    }
+    Ok(Request {
+        lattice: Known::try_from(name.as_bytes()).map_err(|_| Complaint::Name)?,
+        kind: Kind::named(kind.as_bytes()).map_err(|_| Complaint::Kind)?,
+        shape: make_shape(heap, cells.as_slice())?,
+    })
 }
 
 fn full(field: Option<&str>, which: Field) -> Result<&str, Complaint> {
-    match field {
-        Some(text) if !text.is_empty() => Ok(text),
-        _ => Err(Complaint::Form(which)),
-    }
+    field
+        .filter(|text| !text.is_empty())
+        .ok_or(Complaint::Form(which))
 }
 
-fn read_cells(field: &str) -> Result<CellList, Complaint> {
-    let origin = Coordinates { a: 0, b: 0, c: 0 };
-    let mut cells = CellList {
-        first: [origin; 16],
-        count: 0,
-    };
-    for text in field.split(' ') {
-        let Some(x) = read_cell(text) else {
-            return Err(Complaint::Form(Field::Cell(cells.count)));
-        };
-        if cells.count < MOST {
-            cells.first[cells.count] = x;
-        }
-        cells.count = cells.count.saturating_add(1);
+fn read_cells(heap: Global, field: &str) -> Result<Vec<Coordinates>, Complaint> {
+    let mut cells = Vec::new(heap);
+    for (place, text) in field.split(' ').enumerate() {
+        let x = read_cell(text).ok_or(Complaint::Form(Field::Cell(place)))?;
+        cells.push(x)?;
     }
     Ok(cells)
 }
@@ -84,10 +53,10 @@ fn read_cell(text: &str) -> Option<Coordinates> {
     let a = read_coordinate(parts.next()?)?;
     let b = read_coordinate(parts.next()?)?;
     let c = read_coordinate(parts.next()?)?;
-    match parts.next() {
-        None => Some(Coordinates { a, b, c }),
-        Some(_) => None,
+    if parts.next().is_some() {
+        return None;
     }
+    Some(Coordinates { a, b, c })
 }
 
 fn read_coordinate(text: &str) -> Option<i16> {
@@ -101,33 +70,21 @@ fn read_coordinate(text: &str) -> Option<i16> {
 // 1 to 3 digits with no leading zero, behind a minus if it is negative.
 fn is_plain(text: &[u8]) -> bool {
     match text {
-        [b'-', b'1'..=b'9'] => true,
-        [b'-', b'1'..=b'9', rest @ ..] => rest.len() <= 2 && are_digits(rest),
-        [b'0'..=b'9'] => true,
-        [b'1'..=b'9', rest @ ..] => rest.len() <= 2 && are_digits(rest),
+        [b'0'] => true,
+        [b'-', b'1'..=b'9', rest @ ..] | [b'1'..=b'9', rest @ ..] => rest.len() <= 2
+            && rest.iter().all(|byte| byte.is_ascii_digit()),
         _ => false,
     }
 }
 
-fn are_digits(text: &[u8]) -> bool {
-    for byte in text {
-        if !byte.is_ascii_digit() {
-            return false;
-        }
+fn make_shape(heap: Global, cells: &[Coordinates]) -> Result<Shape, Complaint> {
+    if cells.len() > MOST_CELLS {
+        return Err(Complaint::Shape(ShapeFault::Count));
     }
-    true
-}
-
-fn make_shape(cells: &CellList) -> Result<Shape, ShapeFault> {
-    if cells.count > MOST {
-        return Err(ShapeFault::Count);
+    let mut made = Vec::new(heap);
+    for (place, x) in cells.iter().enumerate() {
+        let before: Option<Cell> = made.last().copied();
+        made.push(admit(place, before, *x)?)?;
     }
-    let mut made = [Cell::ORIGIN; 16];
-    let mut before = None;
-    for place in 0..cells.count {
-        let x = admit(place, before, cells.first[place])?;
-        made[place] = x;
-        before = Some(x);
-    }
-    Shape::new(&made[0..cells.count])
+    Ok(Shape::new(made.as_slice())?)
 }
