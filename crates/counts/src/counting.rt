@@ -14,6 +14,7 @@ use shapes::entry::Entry;
 use sources::source::Source;
 
 // Runs a source to its end. None if a u64 cannot hold the count.
+// A source puts each entry into the caller's and so is no iterator: its count is a loop.
 fn count<S: Source>(source: &mut S) -> Option<u64>
     ensures value { SomeIff result (length (ahead (S.stands source.old)) < 2 ^ 64) (length (ahead (S.stands source.old))) }
     ensures through { is_some result ≡ true → ahead (S.stands source.new) ≡ [] }
@@ -30,8 +31,6 @@ fn count<S: Source>(source: &mut S) -> Option<u64>
 pub(super) fn count_listed<L: Lattice + Drop>(lattice: L, size: usize, kind: Kind) -> Option<u64>
     ensures { MatchResult (opening_for (L.directions lattice) (L.motions lattice) (L.onesided lattice) size (kind_number kind)) (λ o. SomeIff result (length (listing o) < 2 ^ 64) (length (listing o))) (λ _. is_some result ≡ false) }
 {
-    let Ok(mut lister) = Lister::open(lattice, size, kind.number()) else {
-        return None;
-    };
+    let mut lister = Lister::open(lattice, size, kind.number()).ok()?;
     count(&mut lister)
 }

@@ -4,28 +4,20 @@
 mod counting;
 mod published;
 mod runs;
-mod words;
 
-use anyhow::anyhow;
+use anyhow::ensure;
 use published::{SIZE, compare_all, count_agreeing};
 use runs::show_run;
 use std::alloc::Global;
 use std::io::{BufWriter, Write};
 
 fn main(rt: HostRuntime) -> anyhow::Result<()> {
-    run(&rt)
-}
-
-fn run(rt: &HostRuntime) -> anyhow::Result<()> {
     let mut out = BufWriter::new(rt.alloc(), rt.stdout())?;
     let all_agree = show_counts(rt.alloc(), &mut out)?;
     show_run(rt.alloc(), &mut out)?;
     out.flush()?;
-    if all_agree {
-        Ok(())
-    } else {
-        Err(anyhow!("a count differs from the published one"))
-    }
+    ensure!(all_agree, "a count differs from the published one");
+    Ok(())
 }
 
 // Tells whether all counts agree.

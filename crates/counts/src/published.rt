@@ -3,7 +3,7 @@ ghost use Rattle.std.specs.Prelude.{◌≡◌, count_by};
 ghost use Rattle.counts.specs.Comparisons.{agreed, published_for};
 
 use crate::counting::count_listed;
-use anyhow::anyhow;
+use anyhow::Context;
 use lattice::kind::Kind;
 use lattice::lattice::Lattice;
 use lattices::cubic::Cubic;
@@ -102,9 +102,9 @@ fn compare<L: Lattice + Copy>(
     comparisons: &mut Vec<Comparison>,
 ) -> anyhow::Result<()> {
     for kind in [Kind::Fixed, Kind::OneSided, Kind::Free] {
-        let Some(listed) = count_listed(lattice, SIZE, kind) else {
-            return Err(anyhow!("the lister was not opened, or a u64 cannot hold the count"));
-        };
+        let listed = count_listed(lattice, SIZE, kind).context(
+            "the lister was not opened, or a u64 cannot hold the count",
+        )?;
         comparisons.push(Comparison {
             lattice: lattice.title(),
             kind,
@@ -118,11 +118,8 @@ fn compare<L: Lattice + Copy>(
 pub(super) fn count_agreeing(comparisons: &[Comparison]) -> usize
     ensures { result ≡ count_by agreed comparisons.now }
 {
-    let mut agreeing = 0;
-    for comparison in comparisons {
-        if comparison.agrees() {
-            agreeing += 1;
-        }
-    }
-    agreeing
+    comparisons
+        .iter()
+        .filter(|comparison| comparison.agrees())
+        .count()
 }

@@ -2,19 +2,18 @@
 ghost use Rattle.std.specs.Prelude.{◌≡◌, IfOk};
 ghost use Rattle.shapes.specs.Shapes.{shape_cells};
 
-use crate::words::{AnswerWords, CallWords};
 use anyhow::anyhow;
 use lattice::cell::Cell;
 use lattice::kind::Kind;
 use lattice::lattice::Lattice;
 use lattices::square::Square;
-use listing::calls::{Answer, Call, Stop};
+use listing::calls::{Answer, Call};
 use listing::lister::Lister;
 use listing::listings::Listing;
 use listing::runs::transcribe;
 use shapes::entry::Entry;
 use shapes::shape::Shape;
-use shapes::shown::Numbers;
+use shapes::shown::Spaced;
 use sources::bounding_box::BoundingBox;
 use sources::sieve::{Over, Sieve};
 use sources::source::Source;
@@ -61,12 +60,11 @@ type Pile<'a> = Sieve<Sieve<Lister<Square>, BoundingBox>, Symmetry<'a>>;
 
 pub(super) fn show_run<O: Write>(heap: Global, out: &mut O) -> anyhow::Result<()> {
     let calls = make_calls()?;
-    let mut first = Entry::blank();
-    let lister = open_and_next(&mut first)?;
+    let (lister, first) = open_and_next()?;
     let mut pile = Sieve::over(Sieve::over(lister, FRAME), Symmetry::new(&MOTIONS));
     let mut answers = Vec::new(heap);
     let mut replies = Vec::new(heap);
-    if let Err(stop) = transcribe::<Square, Lister<Square>, Pile>(
+    transcribe::<Square, Lister<Square>, Pile>(
         Square,
         CALLS_SIZE,
         KIND.number(),
@@ -75,29 +73,17 @@ pub(super) fn show_run<O: Write>(heap: Global, out: &mut O) -> anyhow::Result<()
         &mut pile,
         NEXTS,
         &mut replies,
-    ) {
-        return Err(anyhow!("{}", reason(stop)));
-    }
+    )?;
     write_calls(out, &calls, answers.as_slice())?;
     write_nexts(out, first, replies.as_slice())?;
     Ok(())
-}
-
-fn reason(stop: Stop) -> &'static str {
-    match stop {
-        Stop::Opening(_) => "the lister was not opened",
-        Stop::Memory => "there is no memory for one more answer",
-    }
 }
 
 // The shape with exactly these cells.
 fn make_shape(cells: &[Cell]) -> anyhow::Result<Shape>
     ensures { IfOk result (λ s. shape_cells s ≡ cells.now) }
 {
-    match Shape::new(cells) {
-        Ok(shape) => Ok(shape),
-        Err(_) => Err(anyhow!("the cells are no shape")),
-    }
+    Shape::new(cells).map_err(|_| anyhow!("the cells are no shape"))
 }
 
 fn make_calls() -> anyhow::Result<[Call; 7]> {
@@ -115,15 +101,16 @@ fn make_calls() -> anyhow::Result<[Call; 7]> {
     ])
 }
 
-// A lister that has handed out one entry.
-fn open_and_next(first: &mut Entry) -> anyhow::Result<Lister<Square>> {
-    let Ok(mut lister) = Lister::open(Square, PILE_SIZE, KIND.number()) else {
-        return Err(anyhow!("the lister was not opened"));
-    };
-    match lister.next(first) {
-        Ok(()) => Ok(lister),
-        Err(_) => Err(anyhow!("the lister has no entry")),
-    }
+// A lister that has handed out one entry, and the entry.
+fn open_and_next() -> anyhow::Result<(Lister<Square>, Entry)> {
+    let mut lister = Lister::open(Square, PILE_SIZE, KIND.number()).map_err(|_| anyhow!(
+        "the lister was not opened"
+    ))?;
+    let mut first = Entry::blank();
+    lister
+        .next(&mut first)
+        .map_err(|_| anyhow!("the lister has no entry"))?;
+    Ok((lister, first))
 }
 
 fn write_calls<O: Write>(out: &mut O, calls: &[Call], answers: &[Answer]) -> io::Result<()> {
@@ -134,7 +121,7 @@ fn write_calls<O: Write>(out: &mut O, calls: &[Call], answers: &[Answer]) -> io:
         KIND.word()
     )?;
     for (call, answer) in calls.iter().zip(answers) {
-        writeln!(out, "{}: {}", CallWords(call), AnswerWords(answer))?;
+        writeln!(out, "{call}: {answer}")?;
     }
     Ok(())
 }
@@ -150,15 +137,12 @@ fn write_nexts<O: Write>(out: &mut O, first: Entry, replies: &[Answer]) -> io::R
     writeln!(
         out,
         "lower sieve: fits into {w} by {h} by {d}; upper sieve: stabiliser has {}",
-        Numbers(&MOTIONS)
+        Spaced(&MOTIONS)
     )?;
-    writeln!(
-        out,
-        "handed out before: {}",
-        AnswerWords(&Answer::Handed(first))
-    )?;
+    let before = Answer::Handed(first);
+    writeln!(out, "handed out before: {before}")?;
     for reply in replies {
-        writeln!(out, "next: {}", AnswerWords(reply))?;
+        writeln!(out, "next: {reply}")?;
     }
     Ok(())
 }

@@ -1,8 +1,7 @@
 use Rattle.std.proofs.Common.{◌≡◌, ℕ, Ok, Result, subst}
 use Rattle.lattice.specs.Kinds.{kind_number}
 use Rattle.listing.specs.Openings.{Opening, opening_for}
-use Rattle.listing.proofs.Opening.{opened_by}
-use Rattle.counts.proofs.Counted.{count_fresh}
+use Rattle.counts.proofs.Counted.{opened_value, count_fresh}
 use Rattle.counts.proofs.counting.count_listed.Goals as goal
 
 pub returns : goal.returns
@@ -10,5 +9,5 @@ returns g c =
     let l = c.args.lattice in
     let L = g.L.Lattice in
     let x : ℕ → Result Opening ℕ = λ k. opening_for (L.directions l) (L.motions l) (L.onesided l) c.args.size k in
-    let (o, h, fresh) = opened_by (x c.number.result) c.in-Ok.lister _ c.in-Ok.ensures in
+    let (o, h, fresh) = opened_value (x c.number.result) _ c.in_ok-lister.lister _ c.in_ok-lister.ensures.value c.open.ensures in
     count_fresh (x (kind_number c.args.kind)) o (subst (λ k. x k ≡ Ok o) c.number.ensures h) _ fresh.1 c.count.result c.count.ensures.value
