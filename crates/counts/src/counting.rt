@@ -31,6 +31,6 @@ fn count<S: Source>(source: &mut S) -> Option<u64>
 pub(super) fn count_listed<L: Lattice + Drop>(lattice: L, size: usize, kind: Kind) -> Option<u64>
     ensures { MatchResult (opening_for (L.directions lattice) (L.motions lattice) (L.onesided lattice) size (kind_number kind)) (λ o. SomeIff result (length (listing o) < 2 ^ 64) (length (listing o))) (λ _. is_some result ≡ false) }
 {
-    let mut lister = Lister::open(lattice, size, kind.number()).ok()?;
+    let mut lister = Lister::open(lattice, size, u8::from(kind)).ok()?;
     count(&mut lister)
 }

@@ -67,7 +67,7 @@ pub(super) fn show_run<O: Write>(heap: Global, out: &mut O) -> anyhow::Result<()
     transcribe::<Square, Lister<Square>, Pile>(
         Square,
         CALLS_SIZE,
-        KIND.number(),
+        u8::from(KIND),
         &calls,
         &mut answers,
         &mut pile,
@@ -103,7 +103,7 @@ fn make_calls() -> anyhow::Result<[Call; 7]> {
 
 // A lister that has handed out one entry, and the entry.
 fn open_and_next() -> anyhow::Result<(Lister<Square>, Entry)> {
-    let mut lister = Lister::open(Square, PILE_SIZE, KIND.number()).map_err(|_| anyhow!(
+    let mut lister = Lister::open(Square, PILE_SIZE, u8::from(KIND)).map_err(|_| anyhow!(
         "the lister was not opened"
     ))?;
     let mut first = Entry::blank();

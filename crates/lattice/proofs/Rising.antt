@@ -1,13 +1,12 @@
 -- Ascending lists of numbers, by places and by members.
-use Rattle.std.proofs.Common.{◌≡◌, ℕ, zero, suc, ◌+◌, ◌-◌, ◌<◌, ◌≤◌, Bool, true, false, cond, eqb, ltb, List, [], ◌∷◌, ◌++◌, length, get_or, take, drop, replicate, sym, refl, ap, ◌∙◌, subst, inl, inr, suc-add, arith, length-take}
+use Rattle.std.proofs.Common.{◌≡◌, ℕ, zero, suc, ◌+◌, ◌<◌, ◌≤◌, Bool, true, false, cond, eqb, ltb, List, [], ◌∷◌, length, get_or, refl, subst, inl, inr, suc-add, arith}
 use Rattle.std.specs.List.Sorted.{IsStrictlyIncreasing}
 use Rattle.std.specs.List.{range_with_len}
 use Rattle.std.proofs.lemmas.List.FromFn.{length-range_with_len}
-use Rattle.std.proofs.lemmas.List.{drop-drop, get_or-take}
 use Rattle.std.proofs.lemmas.Bool.{ltb-true, lt-ltb}
 use Rattle.ordered.specs.Members.{In}
 use Rattle.ordered.specs.Orders.{Ascending}
-use Rattle.ordered.specs.Lookups.{inserted, insertion, over}
+use Rattle.ordered.specs.Lookups.{inserted}
 use Rattle.ordered.proofs.Ascending.{ascending_no_repeats, inserted_out, inserted_ascending}
 use Rattle.ordered.proofs.Orders.{number_order}
 use Rattle.ordered.proofs.Counted.{in_counting}

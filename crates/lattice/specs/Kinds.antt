@@ -8,11 +8,11 @@
 --     numbered_motions ms os n     those of the kind with the number n, or the refusal 2
 --     Closed ms gs                 gs are ascending numbers of motions of ms, with 0 among them and "g after h" with g and h
 --     set_motions s                the numbers in the set s
-use Rattle.std.specs.Prelude.{ℕ, zero, suc, ◌<◌, Bool, true, cond, List, [], ◌∷◌, length, take, Ok, Err, codes, filter, Result, ◌==◌, nat_lt}
+use Rattle.std.specs.Prelude.{ℕ, zero, suc, ◌<◌, Bool, true, cond, List, [], ◌∷◌, length, Ok, Err, codes, filter, Result, ◌==◌, nat_lt}
 use Rattle.std.specs.List.{range_with_len}
-use Rattle.std.specs.Ordering.{is_eq}
+use Rattle.std.specs.Str.{bytes_eq}
 use Rattle.ordered.specs.Members.{In}
-use Rattle.ordered.specs.Orders.{Ascending, comparison}
+use Rattle.ordered.specs.Orders.{Ascending}
 use Rattle.lattice.specs.declared.kind.Kind.{Kind}
 use Rattle.lattice.specs.declared.kind.Kind.TheVariants.{Fixed, OneSided, Free}
 use Rattle.lattice.specs.declared.motion_set.MotionSet.{MotionSet}
@@ -38,7 +38,7 @@ kind_name Free = codes "free"
 -- the first of the kinds ks whose word is bs
 abbrev pub kind_among : List Kind → List ℕ → Result Kind ℕ
 kind_among [] bs = Err 2
-kind_among (k ∷ ks) bs = cond (is_eq (comparison nat_lt bs (kind_name k))) (Ok k) (kind_among ks bs)
+kind_among (k ∷ ks) bs = cond (bytes_eq bs (kind_name k)) (Ok k) (kind_among ks bs)
 
 abbrev pub named_kind : List ℕ → Result Kind ℕ
 named_kind bs = kind_among (Fixed ∷ OneSided ∷ Free ∷ []) bs

@@ -8,7 +8,6 @@ use crate::kind::Kind;
 use crate::lattice::Lattice;
 use crate::motion_set::MotionSet;
 use crate::refusal::Refusal;
-use ordered::compare::compare;
 use std::fmt;
 use std::fmt::Display;
 
@@ -40,6 +39,25 @@ impl TryFrom<u8> for Kind {
     }
 }
 
+// The kind with this word; refused by 2 if there is none.
+impl TryFrom<&[u8]> for Kind {
+    type Error = Refusal;
+
+    ghost try_from_gives = { λ word r. answer (λ k. k) r ≡ named_kind word.now };
+
+    fn try_from(word: &[u8]) -> Result<Kind, Refusal> {
+        if word == Kind::Fixed.word().as_bytes() {
+            Ok(Kind::Fixed)
+        } else if word == Kind::OneSided.word().as_bytes() {
+            Ok(Kind::OneSided)
+        } else if word == Kind::Free.word().as_bytes() {
+            Ok(Kind::Free)
+        } else {
+            Err(Refusal::Kind)
+        }
+    }
+}
+
 impl Display for Kind {
     fn fmt<W: fmt::Write>(&self, f: &mut fmt::Formatter<W>) -> fmt::Result {
         f.write_str(self.word())
@@ -55,21 +73,6 @@ impl Kind {
             Kind::Fixed => "fixed",
             Kind::OneSided => "one-sided",
             Kind::Free => "free",
-        }
-    }
-
-    // The kind with this word; refused by 2 if there is none. (`FromStr` would ask for a text, and a line is bytes.)
-    pub fn named(word: &[u8]) -> Result<Kind, Refusal>
-        ensures { answer (λ k. k) result ≡ named_kind word.now }
-    {
-        if compare(word, b"fixed").is_eq() {
-            Ok(Kind::Fixed)
-        } else if compare(word, b"one-sided").is_eq() {
-            Ok(Kind::OneSided)
-        } else if compare(word, b"free").is_eq() {
-            Ok(Kind::Free)
-        } else {
-            Err(Refusal::Kind)
         }
     }
 

@@ -19,7 +19,7 @@ pub(super) fn print_piece<L: Lattice>(
     kind: Kind,
     shape: &Shape,
 ) -> anyhow::Result<()> {
-    let set = motions_of_kind(lattice, kind.number()).map_err(|_| anyhow!(
+    let set = motions_of_kind(lattice, u8::from(kind)).map_err(|_| anyhow!(
         "the kind has no motions"
     ))?;
     let mut out = BufWriter::new(rt.alloc(), rt.stdout())?;

@@ -28,7 +28,7 @@ pub(super) fn read_request(heap: Global, line: &[u8]) -> Result<Request, Complai
     }
     Ok(Request {
         lattice: Known::try_from(name.as_bytes()).map_err(|_| Complaint::Name)?,
-        kind: Kind::named(kind.as_bytes()).map_err(|_| Complaint::Kind)?,
+        kind: Kind::try_from(kind.as_bytes()).map_err(|_| Complaint::Kind)?,
         shape: make_shape(heap, cells.as_slice())?,
     })
 }
