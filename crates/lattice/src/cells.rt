@@ -1,5 +1,6 @@
 // Cells in their order, and how far they reach.
-ghost use Rattle.std.specs.Prelude.{◌≡◌};
+ghost use Rattle.std.specs.Prelude.{◌≡◌, ◌∷◌, ◌++◌, Some};
+ghost use Rattle.std.specs.Fmt.{signed_decimal};
 ghost use Rattle.std.specs.Cmp.{partial_order_from_own_ties};
 ghost use Rattle.std.specs.Cmp.Rules.{comparing};
 ghost use Rattle.std.specs.Ordering.{as_partial_cmp, int_cmp, on, then_cmp};
@@ -89,6 +90,8 @@ impl Cell {
 
 // As a text has it: `1,0,0`.
 impl fmt::Display for Cell {
+    ghost output = { λ x. Some (signed_decimal x.a ++ (44 ∷ signed_decimal x.b) ++ (44 ∷ signed_decimal x.c)) };
+
     fn fmt<W: fmt::Write>(&self, f: &mut fmt::Formatter<W>) -> fmt::Result {
         let Cell { a, b, c } = *self;
         write!(f, "{a},{b},{c}")
