@@ -24,7 +24,7 @@ impl fmt::Display for Answer {
                 Spaced(entry.stabiliser.as_slice()),
                 entry.orbit_size
             ),
-            Answer::Refused(refusal) => write!(f, "refused by {}", u8::from(refusal)),
+            Answer::Refused(refusal) => write!(f, "refused by {}", u8::from(*refusal)),
             Answer::Told(whereabouts) => write!(f, "{whereabouts}"),
         }
     }

@@ -9,5 +9,5 @@ returns g c =
     let l = c.args.lattice in
     let L = g.L.Lattice in
     let x : ℕ → Result Opening ℕ = λ k. opening_for (L.directions l) (L.motions l) (L.onesided l) c.args.size k in
-    let (o, h, fresh) = opened_value (x c.number.result) _ c.in_ok-lister.lister _ c.in_ok-lister.ensures.value c.open.ensures in
-    count_fresh (x (kind_number c.args.kind)) o (subst (λ k. x k ≡ Ok o) c.number.ensures h) _ fresh.1 c.count.result c.count.ensures.value
+    let (o, h, fresh) = opened_value (x c.from.result) _ c.in_ok-lister.lister _ c.in_ok-lister.ensures.value c.open.ensures in
+    count_fresh (x (kind_number c.args.kind)) o (subst (λ k. x k ≡ Ok o) c.from.ensures h) _ fresh.1 c.count.result c.count.ensures.value
