@@ -63,3 +63,10 @@ module _ {X : Type 0} (less : X → X → Bool) (x : X) where
 
   pub length_inserted_absent : (xs : List X) (k : ℕ) → lookup less x xs ≡ Err k → length (inserted less x xs) ≡ length xs + 1
   length_inserted_absent xs k h = ap length (inserted_absent xs k h) ∙ edits.length-insert xs k x (absent_within xs k h)
+
+  pub length_inserted_le : (xs : List X) → length (inserted less x xs) ≤ length xs + 1
+  length_inserted_le xs = go (lookup less x xs) refl
+    where
+      go : (r : Result ℕ ℕ) → lookup less x xs ≡ r → length (inserted less x xs) ≤ length xs + 1
+      go (Ok k) e = omega (arith, ap length (inserted_found xs k e))
+      go (Err k) e = omega (arith, length_inserted_absent xs k e)

@@ -1,12 +1,9 @@
 // Reading the line.
 use crate::complaint::{Complaint, Field};
-use lattice::cell::Cell;
 use lattice::kind::Kind;
 use lattices::known::Known;
 use shapes::coordinates::Coordinates;
-use shapes::making::{MOST_CELLS, admit};
 use shapes::shape::Shape;
-use shapes::shape_fault::ShapeFault;
 use std::alloc::Global;
 
 #[derive(Clone, Copy)]
@@ -29,7 +26,7 @@ pub(super) fn read_request(heap: Global, line: &[u8]) -> Result<Request, Complai
     Ok(Request {
         lattice: Known::try_from(name.as_bytes()).map_err(|_| Complaint::Name)?,
         kind: Kind::try_from(kind.as_bytes()).map_err(|_| Complaint::Kind)?,
-        shape: make_shape(heap, cells.as_slice())?,
+        shape: Shape::from_coordinates(cells.as_slice())?,
     })
 }
 
@@ -75,16 +72,4 @@ fn is_plain(text: &[u8]) -> bool {
             && rest.iter().all(|byte| byte.is_ascii_digit()),
         _ => false,
     }
-}
-
-fn make_shape(heap: Global, cells: &[Coordinates]) -> Result<Shape, Complaint> {
-    if cells.len() > MOST_CELLS {
-        return Err(Complaint::Shape(ShapeFault::Count));
-    }
-    let mut made = Vec::new(heap);
-    for (place, x) in cells.iter().enumerate() {
-        let before: Option<Cell> = made.last().copied();
-        made.push(admit(place, before, *x)?)?;
-    }
-    Ok(Shape::new(made.as_slice())?)
 }

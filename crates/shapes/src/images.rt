@@ -1,5 +1,6 @@
 // The members of a shape: its images under motions, in normal position.
 ghost use Rattle.std.specs.Prelude.{◌≡◌, ◌<◌, ◌≤◌, map, length};
+ghost use Rattle.lattice.specs.declared.cell.Cell.{Cell as CellValue};
 ghost use Rattle.ordered.specs.Lookups.{inserted, sorted as in_order};
 ghost use Rattle.lattice.specs.Cells.{Within, cell_less, minus};
 ghost use Rattle.lattice.specs.Lattices.{image_under};
@@ -37,23 +38,28 @@ impl Placement {
         requires { length cells.now ≤ 16 }
         ensures { placement_cells result ≡ in_order cell_less cells.now }
     {
-        let mut placement = Placement::default();
-        for x in cells {
-            placement.add(*x);
-        }
-        placement
+        sorted_images(cells, |x| x)
     }
+}
+
+// The different cells that `image` makes of the cells of a list, ascending.
+fn sorted_images<F: Fn(Cell) -> Cell>(cells: &[Cell], image: F) -> Placement
+    requires callable { F.IsAlwaysCallable image }
+    requires few { length cells.now ≤ 16 }
+    ensures { (f : CellValue → CellValue) → ((x y : CellValue) → F.post image x y → y ≡ f x) → placement_cells result ≡ in_order cell_less (map f cells.now) }
+{
+    let mut placement = Placement::default();
+    for x in cells {
+        placement.add(image(*x));
+    }
+    placement
 }
 
 // The images of a shape's cells under a motion, listed ascending.
 fn images<L: Lattice>(lattice: &L, motion: u8, shape: &Shape) -> Placement
     ensures { placement_cells result ≡ in_order cell_less (map (image_under (L.motions lattice.now) motion) (shape_cells shape.now)) }
 {
-    let mut placement = Placement::default();
-    for x in shape.cells() {
-        placement.add(lattice.image(motion, *x));
-    }
-    placement
+    sorted_images(shape.cells(), |x| lattice.image(motion, x))
 }
 
 // x − y

@@ -1,5 +1,6 @@
 // Making a shape, and looking at its cells.
-ghost use Rattle.std.specs.Prelude.{◌≡◌, true, [], ◌∷◌, length};
+ghost use Rattle.std.specs.Prelude.{◌≡◌, [], ◌∷◌, map, length};
+ghost use Rattle.lattice.specs.declared.cell.Cell.{Cell as CellValue};
 ghost use Rattle.lattice.specs.Cells.{origin};
 ghost use Rattle.lattice.specs.Refusals.{refusal_number};
 ghost use Rattle.shapes.specs.Faults.{fault_number, fault_place, follows as in_order, cell_fault, unless, shape_or_fault};
@@ -41,14 +42,30 @@ impl ShapeFault {
     }
 }
 
-impl From<Cell> for Coordinates {
-    ghost from_gives = { λ x r. wide r ≡ x };
+// What says where a cell is to be: a cell, or coordinates that may be those of none.
+trait Locates: Copy {
+    ghost located: { Self → CellValue };
 
-    fn from(x: Cell) -> Coordinates {
+    fn coordinates(self) -> Coordinates
+        ensures { wide result ≡ located self };
+}
+
+impl Locates for Coordinates {
+    ghost located = { wide };
+
+    fn coordinates(self) -> Coordinates {
+        self
+    }
+}
+
+impl Locates for Cell {
+    ghost located = { λ x. x };
+
+    fn coordinates(self) -> Coordinates {
         Coordinates {
-            a: i16::from(x.a),
-            b: i16::from(x.b),
-            c: i16::from(x.c),
+            a: i16::from(self.a),
+            b: i16::from(self.b),
+            c: i16::from(self.c),
         }
     }
 }
@@ -88,22 +105,36 @@ pub fn admit(place: usize, before: Option<Cell>, x: Coordinates) -> Result<Cell,
     }
 }
 
+// The shape with the cells that have these coordinates, or the first fault.
+fn admit_all<T: Locates>(places: &[T]) -> Result<Shape, ShapeFault>
+    ensures { made_shape result ≡ shape_or_fault (map T.located places.now) }
+{
+    if places.is_empty() || places.len() > MOST_CELLS {
+        return Err(ShapeFault::Count);
+    }
+    let mut cells = ArrayList::new();
+    let mut before = None;
+    for (place, x) in places.iter().enumerate() {
+        let cell = admit(place, before, x.coordinates())?;
+        cells.push(cell).unwrap();
+        before = Some(cell);
+    }
+    Ok(Shape { cells })
+}
+
 impl Shape {
     // The shape with exactly these cells, or the first fault.
     pub fn new(cells: &[Cell]) -> Result<Shape, ShapeFault>
         ensures { made_shape result ≡ shape_or_fault cells.now }
     {
-        if cells.is_empty() || cells.len() > MOST_CELLS {
-            return Err(ShapeFault::Count);
-        }
-        let mut admitted = ArrayList::new();
-        let mut before = None;
-        for (place, x) in cells.iter().enumerate() {
-            let cell = admit(place, before, Coordinates::from(*x))?;
-            admitted.push(cell).unwrap();
-            before = Some(cell);
-        }
-        Ok(Shape { cells: admitted })
+        admit_all(cells)
+    }
+
+    // The same of coordinates.
+    pub fn from_coordinates(coordinates: &[Coordinates]) -> Result<Shape, ShapeFault>
+        ensures { made_shape result ≡ shape_or_fault (map wide coordinates.now) }
+    {
+        admit_all(coordinates)
     }
 
     // (0,0,0) alone.

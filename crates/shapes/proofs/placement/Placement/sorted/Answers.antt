@@ -1,13 +1,8 @@
-use Rattle.std.proofs.Common.{refl, ◌∙◌, arith}
-use Rattle.shapes.specs.Members.{placement_cells}
-use Rattle.shapes.proofs.Sorting.{one_more, room, all_sorted}
+use Rattle.std.proofs.Common.{ap, ◌∙◌, rules}
+use Rattle.std.proofs.lemmas.List.{map-id}
+use Rattle.ordered.specs.Lookups.{sorted}
+use Rattle.lattice.specs.Cells.{cell_less}
 use Rattle.shapes.proofs.placement.Placement.sorted.Goals as goal
 
-pub add-requires : goal.add-requires
-add-requires c = room c.args.cells.now (placement_cells c.loop-x.placement) c.loop-x.x-index c.loop-x.invariant (omega arith) c.requires
-
-pub loop-x-preserved : goal.loop-x-preserved
-loop-x-preserved c = c.add.ensures ∙ one_more c.args.cells.now (placement_cells c.loop-x.placement) c.loop-x.x-index c.loop-x.invariant _ (omega arith) refl
-
 pub returns : goal.returns
-returns c = all_sorted c.args.cells.now (placement_cells c.loop-x.placement) c.loop-x.x-index c.loop-x.invariant (omega arith)
+returns c = c.sorted_images.ensures (λ x. x) (λ x y t. search rules) ∙ ap (sorted cell_less) (map-id c.args.cells.now)
