@@ -17,12 +17,9 @@ use lattice::motion_set::MotionSet;
 pub fn entry_of<L: Lattice>(lattice: &L, set: &MotionSet, shape: &Shape) -> Option<Entry>
     ensures { option_map entry_values result ≡ entry_if_connected (L.directions lattice.now) (L.motions lattice.now) (set_motions set.now) (shape_cells shape.now) }
 {
-    match least_member(lattice, set, shape) {
-        None => None,
-        Some(least) => Some(Entry {
-            shape: least,
-            stabiliser: stabiliser(lattice, set, &least),
-            orbit_size: orbit_size(lattice, set, &least),
-        }),
-    }
+    least_member(lattice, set, shape).map(|least| Entry {
+        shape: least,
+        stabiliser: stabiliser(lattice, set, &least),
+        orbit_size: orbit_size(lattice, set, &least),
+    })
 }

@@ -26,10 +26,7 @@ fn lesser<L: Lattice>(lattice: &L, motion: u8, shape: &Shape, least: Shape) -> S
     if !compare(placed.cells(), least.cells()).is_lt() {
         return least;
     }
-    match Shape::new(placed.cells()) {
-        Ok(found) => found,
-        Err(_) => least,
-    }
+    Shape::new(placed.cells()).unwrap_or(least)
 }
 
 // The least member under the motions of a set that the lattice has. None if the shape is not connected.
