@@ -88,7 +88,8 @@ impl Kind {
     }
 }
 
-// The ascending list of the motions of the kind with this number; refused by 2 if there is none.
+// The ascending list of the motions of the kind with this number; refused by 2 if there is none. The kind is a number and no `Kind`,
+// since the rules ask that every number can be given, and say which are refused.
 // It has 0, and "g after h" whenever it has g and h.
 pub fn motions_of_kind<L: Lattice>(lattice: &L, kind: u8) -> Result<MotionSet, Refusal>
     ensures value { answer set_motions result ≡ numbered_motions (L.motions lattice.now) (L.onesided lattice.now) kind }

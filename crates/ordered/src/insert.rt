@@ -13,6 +13,7 @@ pub enum NotInserted {
     Full,
 }
 
+// The slots come with a count beside them: the project asks for an insertion over slices. `ArrayList` has the two in one.
 // Inserts `item` into the list of the first `count` slots, before the first item that is not less, and tells its place.
 pub fn insert<T: TotalOrder + Copy>(
     slots: &mut [T],

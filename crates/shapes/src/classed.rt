@@ -12,6 +12,7 @@ use crate::symmetry::{orbit_size, stabiliser};
 use lattice::lattice::Lattice;
 use lattice::motion_set::MotionSet;
 
+// Lattice and set stay two parameters: one value of both would have to own the lattice, since today's prover does not state that a reference to a lattice is one.
 // The least member of the shape with its stabiliser and orbit size, under the motions of a set that the lattice has.
 // None if the shape is not connected.
 pub fn entry_of<L: Lattice>(lattice: &L, set: &MotionSet, shape: &Shape) -> Option<Entry>

@@ -22,6 +22,7 @@ fn makes_less<L: Lattice>(lattice: &L, motion: u8, shape: &Shape) -> bool
         && compare(member(lattice, motion, shape).cells(), shape.cells()).is_lt()
 }
 
+// Lattice and set stay two parameters: one value of both would have to own the lattice, since today's prover does not state that a reference to a lattice is one.
 // Whether the shape is its own least member under the motions of a set that the lattice has.
 // It takes the motions ascending, and stops at the first image that is less.
 pub fn is_least<L: Lattice>(lattice: &L, set: &MotionSet, shape: &Shape) -> bool

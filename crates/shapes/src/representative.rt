@@ -29,6 +29,7 @@ fn lesser<L: Lattice>(lattice: &L, motion: u8, shape: &Shape, least: Shape) -> S
     Shape::new(placed.cells()).unwrap_or(least)
 }
 
+// Lattice and set stay two parameters: one value of both would have to own the lattice, since today's prover does not state that a reference to a lattice is one.
 // The least member under the motions of a set that the lattice has. None if the shape is not connected.
 pub fn least_member<L: Lattice>(lattice: &L, set: &MotionSet, shape: &Shape) -> Option<Shape>
     ensures { option_map shape_cells result ≡ least_if_connected (L.directions lattice.now) (L.motions lattice.now) (set_motions set.now) (shape_cells shape.now) }

@@ -24,6 +24,7 @@ fn keeps<L: Lattice>(lattice: &L, motion: u8, shape: &Shape) -> bool
         && compare(member(lattice, motion, shape).cells(), shape.cells()).is_eq()
 }
 
+// Lattice and set stay two parameters: one value of both would have to own the lattice, since today's prover does not state that a reference to a lattice is one.
 // The motions of a set, of those that the lattice has, that leave the shape as it is.
 pub fn stabiliser<L: Lattice>(lattice: &L, set: &MotionSet, shape: &Shape) -> MotionSet
     ensures value { set_motions result ≡ stabiliser_of (L.motions lattice.now) (usable (L.motions lattice.now) (set_motions set.now)) (shape_cells shape.now) }
@@ -83,6 +84,7 @@ impl Orbit {
     }
 }
 
+// Lattice and set stay two parameters: one value of both would have to own the lattice, since today's prover does not state that a reference to a lattice is one.
 // The different members of a shape under the motions of a set that the lattice has, by ascending motion:
 // each once, with the lowest motion that makes it.
 pub fn orbit<L: Lattice>(lattice: &L, set: &MotionSet, shape: &Shape) -> Orbit
@@ -102,6 +104,7 @@ pub fn orbit<L: Lattice>(lattice: &L, set: &MotionSet, shape: &Shape) -> Orbit
     orbit
 }
 
+// Lattice and set stay two parameters: one value of both would have to own the lattice, since today's prover does not state that a reference to a lattice is one.
 // How many different members a shape has under the motions of a set that the lattice has.
 pub fn orbit_size<L: Lattice>(lattice: &L, set: &MotionSet, shape: &Shape) -> u8
     ensures value { result ≡ orbit_size_of (L.motions lattice.now) (usable (L.motions lattice.now) (set_motions set.now)) (shape_cells shape.now) }

@@ -11,6 +11,7 @@ pub trait Source {
     // What a next leaves as it is, besides.
     ghost kept: { Self → Self → Type 0 } = { λ _ _. Unit {0} };
 
+    // The entry is written to the caller's and is no value of `Ok`: the project asks for that, so that a refusal leaves what the caller has.
     // With entries ahead, writes the first of them to `out` and moves it to the end of behind. With none, refuses by 6 and changes nothing;
     // the lowest source of a pile of sieves is then through.
     fn next(&mut self, out: &mut Entry) -> Result<(), Refusal>
