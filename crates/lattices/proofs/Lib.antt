@@ -1,2 +1,3 @@
+pub mod NearCells
 pub mod Turns
 pub mod Orders

@@ -10,6 +10,7 @@ use Rattle.lattice.specs.Lattices.{image_under}
 use Rattle.lattice.specs.Coordinates.{cell_same, within_says}
 use Rattle.lattice.proofs.Products.{image_product}
 use Rattle.lattices.proofs.Turns.{SameCoordinates}
+use Rattle.lattices.specs.declared.near_cell.NearCell.{NearCell}
 use Rattle.lattices.specs.Cubic.{order_of, sign, signs, cubic_motion, cubic_motions}
 
 pub image_in : (g : ℕ) (x : Cell) → g < 48 → in_reach x ≡ true → image_under cubic_motions g x ≡ image (signs (g % 8)) (image (order_of (g / 8)) x)
@@ -37,8 +38,8 @@ orders_are (suc (suc (suc (suc zero)))) x = cell_same (image (order_of 4) x) (or
 orders_are (suc (suc (suc (suc (suc p))))) x = cell_same (image (order_of (suc (suc (suc (suc (suc p)))))) x) (cell x.c x.b x.a) (omega (arith, ints)) (omega (arith, ints)) (omega (arith, ints))
 
 -- the cell y is x in the order p, coordinate by coordinate
-pub in_order : (order p : ℕ) → order ≡ p → (x : Cell) → in_reach x ≡ true → (y : Cell) → (Within 15 x → SameCoordinates y (ordered_by p x)) → y ≡ image (order_of order) x
-in_order order p e x near y same = let t = same (within_says 15 x near) in rw e (cell_same y (ordered_by p x) t.0 t.1 t.2 ∙ sym (orders_are p x))
+pub in_order : (order p : ℕ) → order ≡ p → (x : NearCell) (y : Cell) → (Within 15 x.cell → SameCoordinates y (ordered_by p x.cell)) → y ≡ image (order_of order) x.cell
+in_order order p e x y same = let t = same (within_says 15 x.cell x.near) in rw e (cell_same y (ordered_by p x.cell) t.0 t.1 t.2 ∙ sym (orders_are p x.cell))
 
 pub signs_are : (s : ℕ) (x : Cell) → image (signs s) x ≡ cell (sign (s % 2) *ℤ x.a) (sign (s / 2 % 2) *ℤ x.b) (sign (s / 4 % 2) *ℤ x.c)
 unfolding image

@@ -11,6 +11,7 @@ use Rattle.lattice.specs.Matrices.{Matrix, image, identity}
 use Rattle.lattice.specs.Lattices.{image_under}
 use Rattle.lattice.specs.Coordinates.{cell_same, within_says}
 use Rattle.lattice.proofs.Products.{image_product, image_identity}
+use Rattle.lattices.specs.declared.near_cell.NearCell.{NearCell}
 use Rattle.lattices.specs.Plane.{swap, swaps, turns, plane_motion, plane_motions}
 use Rattle.lattices.specs.Lawful.{plane_count}
 use Rattle.lattices.specs.Square.{square_turn}
@@ -69,9 +70,9 @@ unfolding image hex_turn
 hex_turn_is x = cell_same (image hex_turn x) (hex_once x) (omega (arith, ints)) (omega (arith, ints)) (omega (arith, ints))
 
 -- the cell y is x turned k times, coordinate by coordinate
-module _ (times k : ℕ) (e : times ≡ k) (x : Cell) (near : in_reach x ≡ true) (y : Cell) where
-  pub square_turned : (Within 15 x → SameCoordinates y (turned_by square_once k x)) → y ≡ image (turns square_turn times) x
-  square_turned same = let t = same (within_says 15 x near) in rw e (cell_same y (turned_by square_once k x) t.0 t.1 t.2 ∙ sym (turns_are square_turn square_once square_turn_is k x))
+module _ (times k : ℕ) (e : times ≡ k) (x : NearCell) (y : Cell) where
+  pub square_turned : (Within 15 x.cell → SameCoordinates y (turned_by square_once k x.cell)) → y ≡ image (turns square_turn times) x.cell
+  square_turned same = let t = same (within_says 15 x.cell x.near) in rw e (cell_same y (turned_by square_once k x.cell) t.0 t.1 t.2 ∙ sym (turns_are square_turn square_once square_turn_is k x.cell))
 
-  pub hex_turned : (Within 15 x → SameCoordinates y (turned_by hex_once k x)) → y ≡ image (turns hex_turn times) x
-  hex_turned same = let t = same (within_says 15 x near) in rw e (cell_same y (turned_by hex_once k x) t.0 t.1 t.2 ∙ sym (turns_are hex_turn hex_once hex_turn_is k x))
+  pub hex_turned : (Within 15 x.cell → SameCoordinates y (turned_by hex_once k x.cell)) → y ≡ image (turns hex_turn times) x.cell
+  hex_turned same = let t = same (within_says 15 x.cell x.near) in rw e (cell_same y (turned_by hex_once k x.cell) t.0 t.1 t.2 ∙ sym (turns_are hex_turn hex_once hex_turn_is k x.cell))

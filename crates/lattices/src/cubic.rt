@@ -1,12 +1,13 @@
 // The cubic lattice.
 ghost use Rattle.std.specs.Prelude.{◌≡◌, ◌<◌, true, ◌*ℤ◌, refl};
-ghost use Rattle.lattice.specs.Cells.{from_to, in_reach};
+ghost use Rattle.lattice.specs.Cells.{from_to};
 ghost use Rattle.lattice.specs.Matrices.{image as carried};
 ghost use Rattle.lattices.specs.Cubic.{cubic_name, cubic_directions, order_of, sign, signs, cubic_motions, cubic_one_sided};
 ghost use Rattle.lattices.specs.CubicTable.{cubic_count, cubic_rules};
 
 use crate::cubic_table::AFTER;
 use crate::directions::direction;
+use crate::near_cell::NearCell;
 use lattice::cell::Cell;
 use lattice::lattice::Lattice;
 
@@ -23,40 +24,19 @@ const STEPS: [Cell; 6] = [
 ];
 
 // The coordinates in the order that motions 8 * order to 8 * order + 7 have.
-fn ordered(order: u8, x: Cell) -> Cell
-    requires count { order < 6 }
-    requires near { in_reach x ≡ true }
-    ensures value { result ≡ carried (order_of order) x }
-    ensures near { in_reach result ≡ true }
+fn ordered(order: u8, x: NearCell) -> NearCell
+    ensures { result.cell ≡ carried (order_of order) x.cell }
 {
-    match order {
-        0 => x,
-        1 => Cell {
-            a: x.b,
-            b: x.c,
-            c: x.a,
-        },
-        2 => Cell {
-            a: x.c,
-            b: x.a,
-            c: x.b,
-        },
-        3 => Cell {
-            a: x.a,
-            b: x.c,
-            c: x.b,
-        },
-        4 => Cell {
-            a: x.b,
-            b: x.a,
-            c: x.c,
-        },
-        _ => Cell {
-            a: x.c,
-            b: x.b,
-            c: x.a,
-        },
-    }
+    let Cell { a, b, c } = x.cell;
+    let cell = match order {
+        0 => x.cell,
+        1 => Cell { a: b, b: c, c: a },
+        2 => Cell { a: c, b: a, c: b },
+        3 => Cell { a, b: c, c: b },
+        4 => Cell { a: b, b: a, c },
+        _ => Cell { a: c, b, c: a },
+    };
+    NearCell { cell }
 }
 
 // The coordinate, negated where the bit is 1.
@@ -68,14 +48,14 @@ fn signed(bit: u8, z: i8) -> i8
 }
 
 // Negates the coordinates where `bits` has the bit of weight 1, 2 or 4.
-fn negated(bits: u8, x: Cell) -> Cell
-    requires { in_reach x ≡ true }
-    ensures { result ≡ carried (signs bits) x }
+fn negated(bits: u8, x: NearCell) -> Cell
+    ensures { result ≡ carried (signs bits) x.cell }
 {
+    let Cell { a, b, c } = x.cell;
     Cell {
-        a: signed(bits % 2, x.a),
-        b: signed(bits / 2 % 2, x.b),
-        c: signed(bits / 4 % 2, x.c),
+        a: signed(bits % 2, a),
+        b: signed(bits / 2 % 2, b),
+        c: signed(bits / 4 % 2, c),
     }
 }
 
@@ -113,10 +93,10 @@ impl Lattice for Cubic {
     }
 
     fn image(&self, motion: u8, cell: Cell) -> Cell {
-        if motion >= Self::MOTIONS || !cell.is_in_reach() {
-            return Cell::ORIGIN;
+        match NearCell::new(cell) {
+            Some(x) if motion < Self::MOTIONS => negated(motion % 8, ordered(motion / 8, x)),
+            _ => Cell::ORIGIN,
         }
-        negated(motion % 8, ordered(motion / 8, cell))
     }
 
     fn after(&self, g: u8, h: u8) -> u8 {

@@ -5,6 +5,7 @@ ghost use Rattle.lattices.specs.Hex.{hex_name, hex_directions, hex_turn, hex_mot
 ghost use Rattle.lattices.specs.Lawful.{hex_count, hex_rules, hex_motions_are, hex_after};
 
 use crate::directions::direction;
+use crate::near_cell::NearCell;
 use crate::plane::{self, Turning};
 use lattice::cell::Cell;
 use lattice::lattice::Lattice;
@@ -38,34 +39,15 @@ impl Turning for Hex {
 
     ghost after_is = { hex_after };
 
-    fn turned(times: u8, x: Cell) -> Cell {
+    fn turned(times: u8, x: NearCell) -> Cell {
+        let Cell { a, b, c } = x.cell;
         match times {
-            0 => x,
-            1 => Cell {
-                a: -x.b,
-                b: x.a + x.b,
-                c: x.c,
-            },
-            2 => Cell {
-                a: -x.a - x.b,
-                b: x.a,
-                c: x.c,
-            },
-            3 => Cell {
-                a: -x.a,
-                b: -x.b,
-                c: x.c,
-            },
-            4 => Cell {
-                a: x.b,
-                b: -x.a - x.b,
-                c: x.c,
-            },
-            _ => Cell {
-                a: x.a + x.b,
-                b: -x.a,
-                c: x.c,
-            },
+            0 => x.cell,
+            1 => Cell { a: -b, b: a + b, c },
+            2 => Cell { a: -a - b, b: a, c },
+            3 => Cell { a: -a, b: -b, c },
+            4 => Cell { a: b, b: -a - b, c },
+            _ => Cell { a: a + b, b: -a, c },
         }
     }
 }

@@ -7,5 +7,6 @@ mod directions;
 pub mod hex;
 pub mod known;
 pub mod names;
+mod near_cell;
 mod plane;
 pub mod square;

@@ -1,10 +1,10 @@
 // What the lattices of the plane share: their motions are turns, alone or after a swap of a and b.
-ghost use Rattle.std.specs.Prelude.{◌≡◌, ℕ, ◌<◌, ◌≤◌, true, List, nat_lt};
-ghost use Rattle.lattice.specs.Cells.{in_reach};
+ghost use Rattle.std.specs.Prelude.{◌≡◌, ℕ, ◌<◌, ◌≤◌, List, nat_lt};
 ghost use Rattle.lattice.specs.Matrices.{Matrix, image as carried};
 ghost use Rattle.lattice.specs.Lattices.{image_under, in_one_sided, number_after as numbered_after};
 ghost use Rattle.lattices.specs.Plane.{swap, turns, plane_motions, plane_after};
 
+use crate::near_cell::NearCell;
 use lattice::cell::Cell;
 
 // A lattice of the plane, by its turn.
@@ -18,10 +18,9 @@ pub(crate) trait Turning {
 
     ghost motions: { List Matrix };
 
-    fn turned(times: u8, x: Cell) -> Cell
-        requires count { times < CIRCLE }
-        requires near { in_reach x ≡ true }
-        ensures { result ≡ carried (turns turn times) x };
+    fn turned(times: u8, x: NearCell) -> Cell
+        requires { times < CIRCLE }
+        ensures { result ≡ carried (turns turn times) x.cell };
 
     ghost some: { 0 < CIRCLE };
 
@@ -32,15 +31,13 @@ pub(crate) trait Turning {
     ghost after_is: { (g h : ℕ) → numbered_after motions g h ≡ plane_after CIRCLE g h };
 }
 
-fn swapped(x: Cell) -> Cell
-    requires { in_reach x ≡ true }
-    ensures value { result ≡ carried swap x }
-    ensures near { in_reach result ≡ true }
+// With a and b swapped.
+fn swapped(x: NearCell) -> NearCell
+    ensures { result.cell ≡ carried swap x.cell }
 {
-    Cell {
-        a: x.b,
-        b: x.a,
-        c: x.c,
+    let Cell { a, b, c } = x.cell;
+    NearCell {
+        cell: Cell { a: b, b: a, c },
     }
 }
 
@@ -48,13 +45,10 @@ pub(crate) fn image<T: Turning>(motion: u8, cell: Cell) -> Cell
     ensures { result ≡ image_under T.motions motion cell }
 {
     let circle = T::CIRCLE;
-    if motion >= 2 * circle || !cell.is_in_reach() {
-        return Cell::ORIGIN;
-    }
-    if motion < circle {
-        T::turned(motion, cell)
-    } else {
-        T::turned(motion - circle, swapped(cell))
+    match NearCell::new(cell) {
+        Some(x) if motion < circle => T::turned(motion, x),
+        Some(x) if motion < 2 * circle => T::turned(motion - circle, swapped(x)),
+        _ => Cell::ORIGIN,
     }
 }
 

@@ -5,6 +5,7 @@ ghost use Rattle.lattices.specs.Square.{square_name, square_directions, square_t
 ghost use Rattle.lattices.specs.Lawful.{square_count, square_rules, square_motions_are, square_after};
 
 use crate::directions::direction;
+use crate::near_cell::NearCell;
 use crate::plane::{self, Turning};
 use lattice::cell::Cell;
 use lattice::lattice::Lattice;
@@ -36,24 +37,13 @@ impl Turning for Square {
 
     ghost after_is = { square_after };
 
-    fn turned(times: u8, x: Cell) -> Cell {
+    fn turned(times: u8, x: NearCell) -> Cell {
+        let Cell { a, b, c } = x.cell;
         match times {
-            0 => x,
-            1 => Cell {
-                a: -x.b,
-                b: x.a,
-                c: x.c,
-            },
-            2 => Cell {
-                a: -x.a,
-                b: -x.b,
-                c: x.c,
-            },
-            _ => Cell {
-                a: x.b,
-                b: -x.a,
-                c: x.c,
-            },
+            0 => x.cell,
+            1 => Cell { a: -b, b: a, c },
+            2 => Cell { a: -a, b: -b, c },
+            _ => Cell { a: b, b: -a, c },
         }
     }
 }

@@ -1,16 +1,19 @@
 use Rattle.std.proofs.Common.{sym, ap, ◌∙◌, arith}
 use Rattle.std.proofs.lemmas.Bool.Decides.{nat_tests}
+use Rattle.lattice.specs.Lattices.{image_under}
 use Rattle.lattice.specs.Matrices.{image}
-use Rattle.lattices.specs.Cubic.{signs}
+use Rattle.lattices.specs.Cubic.{signs, cubic_motions}
+use Rattle.lattices.proofs.NearCells.{near_is}
 use Rattle.lattices.proofs.Orders.{image_in}
 use Rattle.lattices.specs.CubicTable.{cubic_count}
 use Rattle.lattices.proofs.cubic.CubicLattice.image.Goals as goal
 
-pub returns-then-motion-ge-MOTIONS : goal.returns-then-motion-ge-MOTIONS
-returns-then-motion-ge-MOTIONS c = rw cubic_count (grind (arith, nat_tests))
-
-pub returns : goal.returns
-returns c =
+pub returns-in-Some : goal.returns-in-Some
+returns-in-Some c =
     c.negated.ensures
-    ∙ ap (image (signs _)) c.ordered.ensures.value
-    ∙ sym (image_in c.args.motion c.args.cell (omega arith) (sym c.if-not-is_in_reach.ensures))
+    ∙ ap (image (signs _)) c.ordered.ensures
+    ∙ sym (image_in c.args.motion c.in-Some.x.cell (omega arith) c.in-Some.x.near)
+    ∙ ap (image_under cubic_motions c.args.motion) (near_is c.args.cell c.new.result c.in-Some.x c.new.ensures c.in-Some.is)
+
+pub returns-in_default : goal.returns-in_default
+returns-in_default c = rw cubic_count (grind (arith, nat_tests))

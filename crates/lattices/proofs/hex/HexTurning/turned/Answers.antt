@@ -4,19 +4,19 @@ use Rattle.lattices.proofs.Turns.{hex_turned}
 use Rattle.lattices.proofs.hex.HexTurning.turned.Goals as goal
 
 pub returns-in-0 : goal.returns-in-0
-returns-in-0 c = hex_turned c.args.times 0 c.in-0.is c.args.x c.requires.near _ (λ near. (omega (arith, ints), omega (arith, ints), omega (arith, ints)))
+returns-in-0 c = hex_turned c.args.times 0 c.in-0.is c.args.x _ (λ near. (omega (arith, ints), omega (arith, ints), omega (arith, ints)))
 
 pub returns-in-1 : goal.returns-in-1
-returns-in-1 c = hex_turned c.args.times 1 c.in-1.is c.args.x c.requires.near _ (λ near. (omega (arith, ints), omega (arith, ints), omega (arith, ints)))
+returns-in-1 c = hex_turned c.args.times 1 c.in-1.is c.args.x _ (λ near. (omega (arith, ints), omega (arith, ints), omega (arith, ints)))
 
 pub returns-in-2 : goal.returns-in-2
-returns-in-2 c = hex_turned c.args.times 2 c.in-2.is c.args.x c.requires.near _ (λ near. (omega (arith, ints), omega (arith, ints), omega (arith, ints)))
+returns-in-2 c = hex_turned c.args.times 2 c.in-2.is c.args.x _ (λ near. (omega (arith, ints), omega (arith, ints), omega (arith, ints)))
 
 pub returns-in-3 : goal.returns-in-3
-returns-in-3 c = hex_turned c.args.times 3 c.in-3.is c.args.x c.requires.near _ (λ near. (omega (arith, ints), omega (arith, ints), omega (arith, ints)))
+returns-in-3 c = hex_turned c.args.times 3 c.in-3.is c.args.x _ (λ near. (omega (arith, ints), omega (arith, ints), omega (arith, ints)))
 
 pub returns-in-4 : goal.returns-in-4
-returns-in-4 c = hex_turned c.args.times 4 c.in-4.is c.args.x c.requires.near _ (λ near. (omega (arith, ints), omega (arith, ints), omega (arith, ints)))
+returns-in-4 c = hex_turned c.args.times 4 c.in-4.is c.args.x _ (λ near. (omega (arith, ints), omega (arith, ints), omega (arith, ints)))
 
 pub returns-in_default : goal.returns-in_default
-returns-in_default c = hex_turned c.args.times 5 (omega arith) c.args.x c.requires.near _ (λ near. (omega (arith, ints), omega (arith, ints), omega (arith, ints)))
+returns-in_default c = hex_turned c.args.times 5 (omega arith) c.args.x _ (λ near. (omega (arith, ints), omega (arith, ints), omega (arith, ints)))
