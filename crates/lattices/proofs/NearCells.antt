@@ -1,5 +1,5 @@
 -- What the making of a cell in reach says of the cell.
-use Rattle.std.proofs.Common.{◌≡◌, true, cond, arith}
+use Rattle.std.proofs.Common.{◌≡◌, cond, arith}
 use Rattle.std.specs.Prelude.{Option, Some, None, option_map}
 use Rattle.lattice.specs.declared.cell.Cell.{Cell}
 use Rattle.lattice.specs.Cells.{in_reach}
