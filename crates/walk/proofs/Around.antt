@@ -1,27 +1,31 @@
 -- The cells of a lattice as a walk sees them: what is on a list of cells, and how far the cells of a place list are.
-use Rattle.std.proofs.Common.{◌≡◌, ℕ, ◌+◌, ◌<◌, Bool, true, false, cond, not, ◌&&◌, List, [], ◌∷◌, ◌++◌, length, get_or, take, drop, sym, refl, ap, ◌∙◌, subst, inl, inr, ⊎_elim, arith}
+use Rattle.std.proofs.Common.{◌≡◌, ℕ, ◌+◌, ◌<◌, Bool, true, false, int_eq, Some, None, Option, cond, not, ◌&&◌, ◌||◌, List, [], ◌∷◌, ◌++◌, length, get_or, drop, sym, refl, ap, ◌∙◌, subst, ap₂, inl, inr, ⊎_elim, arith, rules}
 use lib.ListN.{length-map}
-use Rattle.std.specs.List.{AllByRecursion, list_all}
-use Rattle.std.proofs.lemmas.List.{take_more, at_drop_more, get_or_past}
+use Rattle.std.specs.Ordering.{is_lt, then_cmp, int_cmp, on as on_key}
+use Rattle.std.specs.Option.{SomeIff}
+use Rattle.std.specs.List.{AllByRecursion, list_all, list_any}
+use Rattle.std.proofs.lemmas.List.{at_drop_more, get_or_past}
 use Rattle.std.proofs.lemmas.Int.{ints}
-use Rattle.std.proofs.lemmas.Bool.{or_from, and_from, and_parts, cases_lt, cond-true}
+use Rattle.std.proofs.lemmas.Bool.{and_from, and_parts, cases_lt, cond-true}
 use Rattle.ordered.specs.Members.{In}
-use Rattle.ordered.proofs.Members.{in_cast, in_get_or, from_map}
+use Rattle.ordered.proofs.Members.{in_get_or, from_map}
 use Rattle.lattice.specs.declared.cell.Cell.{Cell}
-use Rattle.lattice.specs.Cells.{origin, cell_less, Within, within, plus}
+use Rattle.lattice.specs.Cells.{origin, cell_less, Within, within, plus, Fits}
 use Rattle.lattice.specs.Coordinates.{within_says}
 use Rattle.shapes.specs.Positions.{neighbours}
 use Rattle.shapes.proofs.Bounds.{plus_within, within_more, within_test}
-use Rattle.walk.specs.Neighbourhoods.{Neighbourhood, on}
+use Rattle.walk.specs.Neighbourhoods.{on}
 use Rattle.walk.specs.Places.{put, put_all, spread, cell_at, after_pick, places_from, first_places}
 use Rattle.shapes.specs.Floods.{same_cell}
 use Rattle.walk.specs.CellsAround.{cells_around}
-use Rattle.walk.proofs.Lists.{in_on}
 use Rattle.walk.proofs.Places.{in_put_all}
 
-on_push_off : {X : Type 0} (g : Neighbourhood X) (xs : List X) (y x : X) → on g xs x ≡ false → g.same x y ≡ false → on g (xs ++ y ∷ []) x ≡ false
-on_push_off g [] y x h e = or_from (g.same x y) false e refl
-on_push_off g (z ∷ zs) y x h e = grind (arith, on_push_off g zs y x)
+-- the comparison of cells by `==`
+abbrev same_numbers : Cell → Cell → Bool
+same_numbers y x = int_eq y.a x.a && (int_eq y.b x.b && int_eq y.c x.c)
+
+same_is : (y x : Cell) → same_numbers y x ≡ same_cell x y
+same_is y x = search rules
 
 and_false : (b : Bool) → (b && false) ≡ false
 and_false true = refl
@@ -29,13 +33,10 @@ and_false false = refl
 
 module _ (ds : List Cell) where
   -- ---- what is on a list
-  pub on_found : (xs : List Cell) (x : Cell) (i : ℕ) → i < length xs → same_cell x (get_or xs i origin) ≡ true → on (cells_around ds) xs x ≡ true
+  pub on_any : (xs : List Cell) (x : Cell) → list_any (λ y. same_numbers y x) xs ≡ on (cells_around ds) xs x
   unfolding cells_around
-  on_found xs x i l e = in_on (cells_around ds) xs x (in_cast xs (sym ((cells_around ds).same_sound x (get_or xs i origin) e)) (in_get_or xs i origin l))
-
-  pub on_passed : (xs : List Cell) (x : Cell) (i : ℕ) → i < length xs → on (cells_around ds) (take i xs) x ≡ false → same_cell x (get_or xs i origin) ≡ false → on (cells_around ds) (take (i + 1) xs) x ≡ false
-  unfolding cells_around
-  on_passed xs x i l h e = ap (λ ys. on (cells_around ds) ys x) (take_more xs i origin l) ∙ on_push_off (cells_around ds) (take i xs) (get_or xs i origin) x h e
+  on_any [] x = refl
+  on_any (y ∷ ys) x = ap₂ (λ b d. b || d) (same_is y x) (on_any ys x)
 
   -- ---- in their words
   pub first_is : first_places (cells_around ds) ≡ origin ∷ []
@@ -65,7 +66,16 @@ module _ (ds : List Cell) where
   pub put_more : (P : List Cell) (x : Cell) (k : ℕ) → k < length ds → put_all (cells_around ds) P (neighbours (drop k ds) x) ≡ put_all (cells_around ds) (put (cells_around ds) P (plus x (get_or ds k origin))) (neighbours (drop (k + 1) ds) x)
   put_more P x k l = at_drop_more (λ r. put_all (cells_around ds) P (neighbours r x)) ds k origin l
 
+-- the comparison of cells by `<`
+pub less_is : (x y : Cell) → is_lt (then_cmp (on_key (λ z. z.c) int_cmp) (then_cmp (on_key (λ z. z.b) int_cmp) (on_key (λ z. z.a) int_cmp)) x y) ≡ cell_less x y
+less_is x y = search rules
+
 -- ---- how far
+-- a cell not too far off has its neighbours
+pub sum_is : (x y : Cell) (r : Option Cell) → Within 100 x → Within 1 y → SomeIff r (Fits (plus x y)) (plus x y) → r ≡ Some (plus x y)
+sum_is x y (Some z) near short h = ap Some h.1
+sum_is x y None near short h = absurd (h (omega (arith, ints), omega (arith, ints), omega (arith, ints)))
+
 pub all_pass_within : (r : ℕ) (xs : List Cell) → AllByRecursion (Within r) xs → list_all (within r) xs ≡ true
 all_pass_within r [] h = refl
 all_pass_within r (x ∷ xs) h = and_from (within r x) (list_all (within r) xs) (within_test r x h.0) (all_pass_within r xs h.1)

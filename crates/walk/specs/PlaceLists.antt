@@ -13,10 +13,10 @@ abbrev pub place_cells : PlaceList → List Cell
 place_cells p = take p.len p.cells
 
 abbrev pub directions_in : DirectionList → List Cell
-directions_in d = take d.count d.cells
+directions_in d = d.cells
 
 abbrev pub pick_numbers : PickList → List ℕ
-pick_numbers p = take p.count p.picks
+pick_numbers p = p.picks
 
 abbrev pub picked : Option PickList → Option (List ℕ)
 picked None = None

@@ -1,7 +1,6 @@
 // The walk of a connected set of cells, its pick list, and the search through all pick lists.
 #![tactic(auto)]
 
-mod cell_tests;
 mod copying;
 mod direction_list;
 pub mod pick_list;

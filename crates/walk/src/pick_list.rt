@@ -1,10 +1,7 @@
 // The pick list of a connected shape.
-ghost use Rattle.std.specs.Prelude.{◌≡◌, ◌≤◌, length};
+use ordered::array_list::ArrayList;
 
 #[derive(Clone, Copy)]
 pub struct PickList {
-    pub(crate) picks: [usize; 16],
-    pub(crate) count: usize,
-    ghost few: { count ≤ 16 },
-    ghost space: { length picks ≡ 16 },
+    pub(crate) picks: ArrayList<usize, 16>,
 }

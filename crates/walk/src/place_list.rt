@@ -1,4 +1,4 @@
-// The place list of a walk.
+// The place list of a walk. Its slots have a length beside them, and are no list with a room: cutting back must not write.
 ghost use Rattle.std.specs.Prelude.{◌≡◌, ◌≤◌, length};
 
 use lattice::cell::Cell;

@@ -7,22 +7,9 @@ ghost use Rattle.walk.specs.Neighbourhoods.{on};
 ghost use Rattle.walk.specs.PlaceLists.{place_cells, directions_in};
 ghost use Rattle.walk.specs.Places.{put as put_on, spread as spread_on};
 
-use crate::cell_tests::{is_above, is_same, sum};
 use crate::direction_list::DirectionList;
 use crate::place_list::PlaceList;
 use lattice::cell::Cell;
-
-// Whether a cell is one of some cells, whatever the directions.
-pub(crate) fn is_on(cells: &[Cell], x: Cell) -> bool
-    ensures { (ds : List Cell) → result ≡ on (cells_around ds) cells.now x }
-{
-    for y in cells {
-        if is_same(x, *y) {
-            return true;
-        }
-    }
-    false
-}
 
 impl PlaceList {
     // The place list of no picks.
@@ -51,7 +38,7 @@ impl PlaceList {
     pub(crate) fn contains(&self, x: Cell) -> bool
         ensures { (ds : List Cell) → result ≡ on (cells_around ds) (place_cells self.now) x }
     {
-        is_on(&self.cells[0..self.len], x)
+        self.cells[..self.len].contains(&x)
     }
 
     pub(crate) fn push(&mut self, x: Cell)
@@ -75,7 +62,7 @@ impl PlaceList {
         requires { length (place_cells self.old) < 512 }
         ensures { (ds : List Cell) → place_cells self.new ≡ put_on (cells_around ds) (place_cells self.old) x }
     {
-        if is_above(x) && !self.contains(x) {
+        if Cell::ORIGIN < x && !self.contains(x) {
             self.push(x);
         }
     }
@@ -86,9 +73,8 @@ impl PlaceList {
         requires room { length (place_cells self.old) + 26 ≤ 512 }
         ensures { place_cells self.new ≡ spread_on (cells_around (directions_in directions.now)) (place_cells self.old) from }
     {
-        for k in 0..directions.count {
-            let x = sum(from, directions.cells[k]);
-            self.put(x);
+        for step in directions.cells.as_slice() {
+            self.put(from.checked_add(*step).unwrap());
         }
     }
 }

@@ -13,6 +13,7 @@ use crate::trail::Trail;
 use lattice::cell::Cell;
 use lattice::lattice::Lattice;
 use lattice::refusal::Refusal;
+use ordered::array_list::ArrayList;
 use shapes::making::MOST_CELLS;
 
 impl Search {
@@ -46,10 +47,11 @@ impl Search {
     pub fn pick_list(&self) -> PickList
         ensures { pick_numbers result ≡ shown self.now }
     {
-        PickList {
-            picks: self.trail.picks,
-            count: self.trail.shown,
+        let mut picks = ArrayList::new();
+        for place in self.picks() {
+            picks.push(*place).unwrap();
         }
+        PickList { picks }
     }
 
     // The cells that it picks, in its order.

@@ -11,9 +11,9 @@ ghost use Rattle.walk.specs.Walks.{walk as walked, pick_list as the_picks};
 use crate::direction_list::DirectionList;
 use crate::pick_list::PickList;
 use crate::place_list::PlaceList;
-use crate::placing::is_on;
 use lattice::cell::Cell;
 use lattice::lattice::Lattice;
+use ordered::array_list::ArrayList;
 use shapes::shape::Shape;
 
 impl PickList {
@@ -21,7 +21,7 @@ impl PickList {
     pub fn picks(&self) -> &[usize]
         ensures { result.now ≡ pick_numbers self.now }
     {
-        &self.picks[0..self.count]
+        self.picks.as_slice()
     }
 }
 
@@ -31,19 +31,17 @@ fn walk(directions: &DirectionList, wanted: &[Cell]) -> PickList
     ensures { pick_numbers result ≡ walked (cells_around (directions_in directions.now)) wanted.now }
 {
     let mut places = PlaceList::new();
-    let mut picks = [0; 16];
-    let mut count = 0;
+    let mut picks = ArrayList::new();
     let mut place = 0;
-    while count < wanted.len() && place < places.len() {
+    while picks.len() < wanted.len() && place < places.len() {
         let x = places.get(place);
-        if is_on(wanted, x) {
-            picks[count] = place;
-            count += 1;
+        if wanted.contains(&x) {
+            picks.push(place).unwrap();
             places.spread(directions, x);
         }
         place += 1;
     }
-    PickList { picks, count }
+    PickList { picks }
 }
 
 // The pick list of a shape, which it has exactly if it is connected.
@@ -52,9 +50,5 @@ pub fn pick_list<L: Lattice>(lattice: &L, shape: &Shape) -> Option<PickList>
     ensures connected { (is_some result ≡ true) ↔ Connected (neighbours (L.directions lattice.now)) origin (shape_cells shape.now) }
 {
     let list = walk(&DirectionList::of(lattice), shape.cells());
-    if list.count == shape.size() {
-        Some(list)
-    } else {
-        None
-    }
+    (list.picks.len() == shape.size()).then_some(list)
 }

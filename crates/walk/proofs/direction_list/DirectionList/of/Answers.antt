@@ -1,40 +1,31 @@
-use Rattle.std.proofs.Common.{◌≡◌, ℕ, ◌+◌, ◌<◌, ◌≤◌, true, List, [], ◌∷◌, ◌++◌, length, take, set, sym, ap, ◌∙◌, subst, arith, length-set}
+use Rattle.std.proofs.Common.{◌<◌, length, sym, ap, ◌∙◌, arith, length-take}
 use Rattle.std.specs.List.{list_all}
-use Rattle.std.proofs.lemmas.List.{take_more, take_more_set, take_all}
-use Rattle.lattice.specs.declared.cell.Cell.{Cell}
+use Rattle.std.proofs.lemmas.List.{take_more, take_all}
+use Rattle.ordered.proofs.Rooms.{has_room, pushed_behind}
 use Rattle.lattice.specs.Cells.{origin, within}
 use Rattle.walk.proofs.Around.{all_pass_within}
 use Rattle.walk.proofs.direction_list.DirectionList.of.Goals as goal
 
+pub unwrap-requires : goal.unwrap-requires
+unwrap-requires g c =
+    let ds = g.L.Lattice.directions c.args.lattice.now in
+    has_room 26 c.loop-k.cells c.push.result c.push.ensures.value (omega (arith, ap length c.loop-k.invariant, length-take c.loop-k.k ds, (g.L.Lattice.rules c.args.lattice.now).few_directions))
+
 pub loop-k-preserved : goal.loop-k-preserved
 loop-k-preserved g c =
     let ds = g.L.Lattice.directions c.args.lattice.now in
-    let k = c.loop-k.k in
-    let few = (g.L.Lattice.rules c.args.lattice.now).few_directions in
-    let a : k < length ds = omega arith in
-    let b : k < length c.loop-k.cells = omega arith in (
-      simp length-set c.loop-k.invariant.0,
-      ap (λ i. take (k + 1) (set c.loop-k.cells i c.direction.result)) c.from.ensures
-          ∙ take_more_set c.loop-k.cells k c.direction.result b
-          ∙ ap (λ P. P ++ c.direction.result ∷ []) c.loop-k.invariant.1
-          ∙ ap (λ x. take k ds ++ x ∷ []) c.direction.ensures
-          ∙ sym (take_more ds k origin a),
-    )
-
-copied : (ds cells : List Cell) (n k : ℕ) → n ≡ k → take k cells ≡ take k ds → length ds ≤ k → take n cells ≡ ds
-copied ds cells n k e h l = ap (λ m. take m cells) e ∙ h ∙ take_all k ds l
+    let room : length c.loop-k.cells < 26 = omega (arith, ap length c.loop-k.invariant, length-take c.loop-k.k ds, (g.L.Lattice.rules c.args.lattice.now).few_directions) in
+    c.push.ensures.after ∙ (pushed_behind 26 c.direction.result c.loop-k.cells room ∙ rw (c.loop-k.invariant, c.direction.ensures) (sym (take_more ds c.loop-k.k origin (omega arith))))
 
 pub invariant_of-result : goal.invariant_of-result
 invariant_of-result g c =
     let ds = g.L.Lattice.directions c.args.lattice.now in
     let rules = g.L.Lattice.rules c.args.lattice.now in
-    let few = rules.few_directions in
-    let e = copied ds c.loop-k.cells c.from-2.result c.loop-k.k (omega arith) c.loop-k.invariant.1 (omega arith) in
+    let e = c.loop-k.invariant ∙ take_all c.loop-k.k ds (omega arith) in
     record {
-      few = omega arith;
-      space = c.loop-k.invariant.0;
-      short = subst (λ es. list_all (within 1) es ≡ true) (sym e) (all_pass_within 1 ds rules.directions_short);
+      few = omega (arith, ap length e, rules.few_directions);
+      short = ap (list_all (within 1)) e ∙ all_pass_within 1 ds rules.directions_short;
     }
 
 pub returns : goal.returns
-returns g c = copied (g.L.Lattice.directions c.args.lattice.now) c.loop-k.cells c.from-2.result c.loop-k.k (omega arith) c.loop-k.invariant.1 (omega arith)
+returns g c = c.loop-k.invariant ∙ take_all c.loop-k.k (g.L.Lattice.directions c.args.lattice.now) (omega arith)

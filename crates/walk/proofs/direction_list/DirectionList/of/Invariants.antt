@@ -1,5 +1,5 @@
-use Rattle.std.proofs.Common.{◌≡◌, length, take}
+use Rattle.std.proofs.Common.{◌≡◌, take}
 use Rattle.walk.proofs.direction_list.DirectionList.of.Given as goal
 
 abbrev pub invariant-loop-k : goal.invariant-loop-k
-invariant-loop-k g l = (length l.cells ≡ 26) × (take l.k l.cells ≡ take l.k (g.L.Lattice.directions l.lattice))
+invariant-loop-k g l = l.cells ≡ take l.k (g.L.Lattice.directions l.lattice)

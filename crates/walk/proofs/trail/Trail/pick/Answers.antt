@@ -1,4 +1,4 @@
-use Rattle.std.proofs.Common.{◌≤◌, length, get_or, set, sym, refl, ap, ◌∙◌, subst, arith, length-take}
+use Rattle.std.proofs.Common.{get_or, set, sym, refl, ap, ◌∙◌, subst, arith}
 use Rattle.lattice.specs.Cells.{origin, Within}
 use Rattle.shapes.proofs.Bounds.{within_more}
 use Rattle.walk.specs.CellsAround.{cells_around}
@@ -15,12 +15,11 @@ spread-requires c =
     let d = t.directions in
     let ds = ways t in
     let P = place_cells t.places in
-    let few : length ds ≤ 26 = omega (arith, length-take d.count d.cells) in
     record {
       near =
           subst (Within 100) (sym c.get-from.ensures)
           (within_more t.depth 100 (get_or P t.next origin) (omega arith) (place_within t.depth P t.next (places_near ds t c.requires.sound (within_all_pass 1 ds d.short))));
-      room = omega (arith, places_short ds t c.requires.sound few);
+      room = omega (arith, places_short ds t c.requires.sound d.few);
     }
 
 pub returns : goal.returns
