@@ -1,9 +1,9 @@
 -- What lies behind the items of a list with a fixed room, after one item more.
-use Rattle.std.proofs.Common.{◌≡◌, ℕ, ◌+◌, ◌-◌, List, [], ◌∷◌, ◌++◌, drop, set, replicate, sym, ap, ◌∙◌, arith, ◌<◌, length, Ok, Err, Result, is_ok, nat_lt, rules}
+use Rattle.std.proofs.Common.{◌≡◌, ℕ, ◌+◌, ◌-◌, List, [], ◌∷◌, ◌++◌, drop, set, replicate, sym, ap, ◌∙◌, arith, ◌<◌, ◌≤◌, length, Ok, Err, Result, is_ok, nat_lt, nat_le, rules}
 use Rattle.std.specs.Result.{IsOk}
-use Rattle.std.proofs.lemmas.Bool.{lt-ltb, false≢true, cond-true}
+use Rattle.std.proofs.lemmas.Bool.{le-leb, lt-ltb, false≢true, cond-true}
 use Rattle.std.proofs.lemmas.List.{drop-drop, drop-replicate, drop-set-lt}
-use Rattle.ordered.specs.Rooms.{pushed}
+use Rattle.ordered.specs.Rooms.{listed, pushed}
 
 -- one place further on, one blank fewer lies behind
 pub blank_behind : {X : Type 0} (n count : ℕ) (b : X) (slots : List X) → drop count slots ≡ replicate (n - count) b → drop (count + 1) slots ≡ replicate (n - (count + 1)) b
@@ -24,3 +24,7 @@ has_room n xs (Err e) told room = absurd (false≢true (told ∙ lt-ltb (length 
 -- a push with room puts the item behind the others
 pub pushed_behind : {X : Type 0} (n : ℕ) (x : X) (xs : List X) → length xs < n → pushed n x xs ≡ xs ++ x ∷ []
 pushed_behind n x xs room = cond-true (nat_lt (length xs) n) _ _ (lt-ltb (length xs) n room)
+
+-- items that have room are listed
+pub has_list : {X : Type 0} (n : ℕ) (xs : List X) → length xs ≤ n → listed n xs ≡ Ok xs
+has_list n xs few = cond-true (nat_le (length xs) n) _ _ (le-leb (length xs) n few)

@@ -1,7 +1,7 @@
 // Lists with a fixed room, held by value.
 ghost use Rattle.std.specs.Prelude.{◌≡◌, ⊤, ◌≤◌, [], length, is_ok, nat_lt};
 ghost use Rattle.ordered.specs.Lookups.{inserted, insertion_at, after_insertion};
-ghost use Rattle.ordered.specs.Rooms.{pushed};
+ghost use Rattle.ordered.specs.Rooms.{listed, pushed};
 
 use crate::filler::Filler;
 use crate::insert::{NotInserted, insert};
@@ -62,6 +62,17 @@ impl<T: Filler, const N: usize> ArrayList<T, N> {
             slots: [T::default(); N],
             count: 0,
         }
+    }
+
+    // The list of some items, if there is room for them.
+    pub fn from_slice(items: &[T]) -> Result<ArrayList<T, N>, Full>
+        ensures { result ≡ listed N items.now }
+    {
+        let mut list = ArrayList::new();
+        for item in items {
+            list.push(*item)?;
+        }
+        Ok(list)
     }
 
     pub fn as_slice(&self) -> &[T]

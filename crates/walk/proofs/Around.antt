@@ -6,6 +6,7 @@ use Rattle.std.specs.Option.{SomeIff}
 use Rattle.std.specs.List.{AllByRecursion, list_all, list_any}
 use Rattle.std.proofs.lemmas.List.{at_drop_more, get_or_past}
 use Rattle.std.proofs.lemmas.Int.{ints}
+use Rattle.std.proofs.Math.Bool.{and-false}
 use Rattle.std.proofs.lemmas.Bool.{and_from, and_parts, cases_lt, cond-true}
 use Rattle.ordered.specs.Members.{In}
 use Rattle.ordered.proofs.Members.{in_get_or, from_map}
@@ -26,10 +27,6 @@ same_numbers y x = int_eq y.a x.a && (int_eq y.b x.b && int_eq y.c x.c)
 
 same_is : (y x : Cell) → same_numbers y x ≡ same_cell x y
 same_is y x = search rules
-
-and_false : (b : Bool) → (b && false) ≡ false
-and_false true = refl
-and_false false = refl
 
 module _ (ds : List Cell) where
   -- ---- what is on a list
@@ -60,7 +57,7 @@ module _ (ds : List Cell) where
   put_below P x h = ap (λ b. cond (b && not (on (cells_around ds) P x)) (P ++ x ∷ []) P) h
 
   pub put_there : (P : List Cell) (x : Cell) → on (cells_around ds) P x ≡ true → put (cells_around ds) P x ≡ P
-  put_there P x h = ap (λ b. cond ((cells_around ds).above x && not b) (P ++ x ∷ []) P) h ∙ ap (λ b. cond b (P ++ x ∷ []) P) (and_false ((cells_around ds).above x))
+  put_there P x h = ap (λ b. cond ((cells_around ds).above x && not b) (P ++ x ∷ []) P) h ∙ ap (λ b. cond b (P ++ x ∷ []) P) (and-false ((cells_around ds).above x))
 
   -- a neighbour is put on the list, and the others after it
   pub put_more : (P : List Cell) (x : Cell) (k : ℕ) → k < length ds → put_all (cells_around ds) P (neighbours (drop k ds) x) ≡ put_all (cells_around ds) (put (cells_around ds) P (plus x (get_or ds k origin))) (neighbours (drop (k + 1) ds) x)

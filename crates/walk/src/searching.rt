@@ -29,7 +29,7 @@ impl Search {
         Ok(Search { trail })
     }
 
-    // Goes on to the next pick list, or tells that there is none.
+    // Goes on to the next pick list, or tells that there is none. No option: what is found is lent by `picks` and by `cells`.
     pub fn advance(&mut self) -> bool
         ensures { Advanced self.old self.new result }
     {
@@ -47,10 +47,7 @@ impl Search {
     pub fn pick_list(&self) -> PickList
         ensures { pick_numbers result ≡ shown self.now }
     {
-        let mut picks = ArrayList::new();
-        for place in self.picks() {
-            picks.push(*place).unwrap();
-        }
+        let picks = ArrayList::from_slice(self.picks()).unwrap();
         PickList { picks }
     }
 

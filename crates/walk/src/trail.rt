@@ -7,6 +7,8 @@ use lattice::cell::Cell;
 
 // `depth` picks are made, with their cells and the length of the place list before each, and the next place to try.
 // The first `shown` picks are the pick list found last, if there is one.
+// The picks and the cells are no one array of steps: a search lends each as a slice.
+// They are no lists with a room: a step back only lowers `depth`, where a list would write a blank.
 #[derive(Drop)]
 pub(crate) struct Trail {
     pub(crate) directions: DirectionList,

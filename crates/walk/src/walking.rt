@@ -33,6 +33,7 @@ fn walk(directions: &DirectionList, wanted: &[Cell]) -> PickList
     let mut places = PlaceList::new();
     let mut picks = ArrayList::new();
     let mut place = 0;
+    // The places are not iterated: a pick puts more on their end.
     while picks.len() < wanted.len() && place < places.len() {
         let x = places.get(place);
         if wanted.contains(&x) {

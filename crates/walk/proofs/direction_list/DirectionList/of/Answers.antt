@@ -1,4 +1,4 @@
-use Rattle.std.proofs.Common.{◌<◌, length, sym, ap, ◌∙◌, arith, length-take}
+use Rattle.std.proofs.Common.{◌≡◌, ◌<◌, [], ◌∷◌, ◌++◌, length, sym, ap, ◌∙◌, arith, length-take}
 use Rattle.std.specs.List.{list_all}
 use Rattle.std.proofs.lemmas.List.{take_more, take_all}
 use Rattle.ordered.proofs.Rooms.{has_room, pushed_behind}
@@ -15,7 +15,8 @@ pub loop-k-preserved : goal.loop-k-preserved
 loop-k-preserved g c =
     let ds = g.L.Lattice.directions c.args.lattice.now in
     let room : length c.loop-k.cells < 26 = omega (arith, ap length c.loop-k.invariant, length-take c.loop-k.k ds, (g.L.Lattice.rules c.args.lattice.now).few_directions) in
-    c.push.ensures.after ∙ (pushed_behind 26 c.direction.result c.loop-k.cells room ∙ rw (c.loop-k.invariant, c.direction.ensures) (sym (take_more ds c.loop-k.k origin (omega arith))))
+    let put : c.push.new.self ≡ c.loop-k.cells ++ c.direction.result ∷ [] = c.push.ensures.after ∙ pushed_behind 26 c.direction.result c.loop-k.cells room in
+    put ∙ rw (c.loop-k.invariant, c.direction.ensures) (sym (take_more ds c.loop-k.k origin (omega arith)))
 
 pub invariant_of-result : goal.invariant_of-result
 invariant_of-result g c =

@@ -1,22 +1,17 @@
-use Rattle.std.proofs.Common.{◌<◌, length, sym, ap, ◌∙◌, arith, length-take}
-use Rattle.std.proofs.lemmas.List.{take_more, take_all}
-use Rattle.ordered.proofs.Rooms.{has_room, pushed_behind}
+use Rattle.std.proofs.Common.{◌≡◌, ◌≤◌, length, Ok, sym, ap, ◌∙◌, arith, rules, length-take}
+use Rattle.ordered.proofs.Rooms.{has_list}
 use Rattle.walk.proofs.search.Search.pick_list.Goals as goal
 
-pub unwrap-requires : goal.unwrap-requires
-unwrap-requires c =
+pub unwrap-picks-requires : goal.unwrap-picks-requires
+unwrap-picks-requires c =
     let t = c.args.self.now.trail in
-    let l = c.loop-place in
-    has_room 16 l.picks c.push.result c.push.ensures.value
-    (omega (arith, ap length l.invariant, length-take l.place-index c.picks-place-items.result.now, ap length c.picks-place-items.ensures, length-take t.shown t.picks))
-
-pub loop-place-preserved : goal.loop-place-preserved
-loop-place-preserved c =
-    let t = c.args.self.now.trail in
-    let l = c.loop-place in
-    let ps = c.picks-place-items.result.now in
-    let room : length l.picks < 16 = omega (arith, ap length l.invariant, length-take l.place-index ps, ap length c.picks-place-items.ensures, length-take t.shown t.picks) in
-    c.push.ensures.after ∙ (pushed_behind 16 _ l.picks room ∙ rw l.invariant (sym (take_more ps l.place-index 0 (omega arith))))
+    let few : length c.picks.result.now ≤ 16 = omega (arith, ap length c.picks.ensures, length-take t.shown t.picks) in
+    rw (c.from_slice.ensures ∙ has_list 16 c.picks.result.now few) (search rules)
 
 pub returns : goal.returns
-returns c = c.loop-place.invariant ∙ take_all c.loop-place.place-index c.picks-place-items.result.now (omega arith) ∙ c.picks-place-items.ensures
+returns c =
+    let t = c.args.self.now.trail in
+    let few : length c.picks.result.now ≤ 16 = omega (arith, ap length c.picks.ensures, length-take t.shown t.picks) in
+    let e : Ok c.unwrap-picks.result ≡ Ok c.picks.result.now = sym c.unwrap-picks.ensures ∙ c.from_slice.ensures ∙ has_list 16 c.picks.result.now few in
+    let f : c.unwrap-picks.result ≡ c.picks.result.now = cc in
+    f ∙ c.picks.ensures
