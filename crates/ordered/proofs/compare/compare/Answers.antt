@@ -1,8 +1,6 @@
 -- The first items of what is left decide each turn, and at the end of one list the lengths do.
 use Rattle.std.proofs.Common.{◌≡◌, ℕ, ◌+◌, ◌<◌, Bool, ◌⊎◌, List, [], ◌∷◌, length, Ordering, Less, Equal, Greater, sym, refl, ap, ◌∙◌, ap₂, inl, inr, arith, rules}
 use Rattle.std.specs.Ordering.{ordering_then, MatchOrdering}
-use Rattle.std.specs.Slice.Iter.{iter_rest}
-use Rattle.std.specs.Iterator.Adapters.{zip_first, zip_second}
 use Rattle.std.proofs.lemmas.Slice.Zip.{Zip-more, either_empty_from_Zip}
 use Rattle.ordered.specs.Orders.{rank, comparison}
 use Rattle.ordered.proofs.Orders.{list_order}
@@ -46,17 +44,7 @@ module _ {X : Type 0} (less : X → X → Bool) where
   ended : (xs ys ps qs : List X) (o : Ordering) → Left xs ys ps qs → (ps ≡ []) ⊎ (qs ≡ []) → MatchOrdering o (length xs < length ys) (length xs ≡ length ys) (length ys < length xs) → o ≡ comparison less xs ys
   ended xs ys ps qs o l h r = by_lengths ps qs (length xs) (length ys) o h l.1 r ∙ sym l.0
 
-pub loop-x-init : goal.loop-x-init
-loop-x-init g c =
-    let s = c.into_iter-x-iterator.ensures.into_iter_gives in
-    starts g.T.TotalOrder.less c.args.xs.now c.args.ys.now _ _
-    (ap (λ z. iter_rest (zip_first z)) s ∙ ap iter_rest c.zip-x-items.ensures.first ∙ c.iter.ensures.rest)
-    (ap (λ z. iter_rest (zip_second z)) s ∙ c.zip-x-items.ensures.second.0)
 
-pub loop-x-preserved : goal.loop-x-preserved
-loop-x-preserved g c =
-    let t = Zip-more c.loop-x.x-iterator c.next.new.self c.next.result _ c.in-Some.is c.next.ensures.steps in
-    goes_on g.T.TotalOrder.less c.args.xs.now c.args.ys.now _ _ _ _ _ _ c.loop-x.invariant t.0 t.1 c.in-Equal.ensures
 
 pub returns-in_default : goal.returns-in_default
 returns-in_default g c =
