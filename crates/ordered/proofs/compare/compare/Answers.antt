@@ -44,8 +44,6 @@ module _ {X : Type 0} (less : X → X → Bool) where
   ended : (xs ys ps qs : List X) (o : Ordering) → Left xs ys ps qs → (ps ≡ []) ⊎ (qs ≡ []) → MatchOrdering o (length xs < length ys) (length xs ≡ length ys) (length ys < length xs) → o ≡ comparison less xs ys
   ended xs ys ps qs o l h r = by_lengths ps qs (length xs) (length ys) o h l.1 r ∙ sym l.0
 
-
-
 pub returns-in_default : goal.returns-in_default
 returns-in_default g c =
     let t = Zip-more c.loop-x.x-iterator c.next.new.self c.next.result _ c.in-Some.is c.next.ensures.steps in

@@ -1,7 +1,7 @@
-use Rattle.std.proofs.Common.{◌≡◌, ◌+◌, ◌<◌, ◌≤◌, Bool, ◌||◌, length, get_or, drop, Some, None, Option, sym, ap, ◌∙◌, subst, arith, rules}
+use Rattle.std.proofs.Common.{◌≡◌, ◌+◌, ◌<◌, Bool, ◌||◌, length, get_or, drop, Some, None, Option, sym, ap, ◌∙◌, subst, arith, rules}
 use Rattle.std.specs.Option.{option_eq, SomeIff}
-use Rattle.std.proofs.lemmas.List.{at_drop_more, at_drop_all}
-use Rattle.std.proofs.lemmas.Bool.{or_left, or_right, or_from}
+use Rattle.std.proofs.lemmas.List.{at_drop_more}
+use Rattle.std.proofs.lemmas.Bool.{or_left, or_right}
 use Rattle.ordered.proofs.Counting.{differ}
 use Rattle.lattice.specs.declared.cell.Cell.{Cell}
 use Rattle.lattice.specs.Cells.{origin, plus, Fits}
@@ -36,12 +36,3 @@ loop-k-preserved g c =
     let test = sym c.if-eq-2.false ∙ c.eq-in-loop-k.ensures ∙ tells _ (λ v w. search rules) c.checked_add.result _ y c.checked_add.ensures fits ∙ ap (λ d. same_cell y (plus x d)) c.direction.ensures in
     let step = at_drop_more (λ l. some_pass (same_cell y) (neighbours l x)) ds c.loop-k.k origin k in
     sym (step ∙ ap (λ b. b || some_pass (same_cell y) (neighbours (drop (c.loop-k.k + 1) ds) x)) (sym test)) ∙ c.loop-k.invariant
-
-pub returns : goal.returns
-returns g c =
-    let ds = g.L.Lattice.directions c.args.lattice.now in
-    let x = c.args.x in
-    let y = c.args.y in
-    let k : length ds ≤ c.loop-k.k = omega (arith, c.direction_count-k-end.ensures) in
-    let first : c.eq.result ≡ same_cell x y = search rules in
-    sym (or_from (same_cell x y) (some_pass (same_cell y) (neighbours ds x)) (sym first ∙ c.if-eq.false) (sym c.loop-k.invariant ∙ at_drop_all (λ l. some_pass (same_cell y) (neighbours l x)) ds c.loop-k.k k))

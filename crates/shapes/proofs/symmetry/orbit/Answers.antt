@@ -8,9 +8,6 @@ use Rattle.shapes.proofs.Orientations.{few_orientations, orientation_skipped, or
 use Rattle.shapes.proofs.symmetry.orbit.Goals as goal
 use Rattle.shapes.proofs.symmetry.orbit.Goals.{then-motion-motion_count, else-motion-motion_count}
 
-pub loop-motion-init : goal.loop-motion-init
-loop-motion-init g c = ap (map oriented) c.empty-orbit.ensures
-
 pub add-requires : goal.add-requires
 add-requires g c =
     let set = c.args.set.now in
