@@ -1,4 +1,5 @@
-// The place list of a walk. Its slots have a length beside them, and are no list with a room: cutting back must not write.
+// The place list of a walk, with room for 512 cells and held by value, as the project asks for.
+// Its slots have a length beside them, and are no list with a room: cutting back must not write.
 ghost use Rattle.std.specs.Prelude.{◌≡◌, ◌≤◌, length};
 
 use lattice::cell::Cell;

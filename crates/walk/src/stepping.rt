@@ -8,6 +8,7 @@ use crate::place_list::PlaceList;
 use crate::trail::Trail;
 use lattice::cell::Cell;
 
+// That a trail is sound is asked of each step, and is no ghost field of it: a step breaks it between its writes. A `Search` always has it.
 impl Trail {
     // No pick is made, and place 0 is the next to try.
     pub(crate) fn new(directions: DirectionList, size: usize) -> Trail
