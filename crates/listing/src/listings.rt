@@ -18,7 +18,7 @@ pub trait Listing<L: Lattice>: Source + Sized {
     ghost opened: { Self → Opening → Type 0 };
 
     // Nothing is behind, and the entries of all classes of connected shapes of the size are ahead, by ascending pick list.
-    // Refused by 1 if the size is 0 or over 16, then by 2 if there is no such kind.
+    // Refused by 1 if the size is 0 or over 16, then by 2 if there is no such kind. The project asks for the three apart, size and kind as numbers.
     fn open(lattice: L, size: usize, kind: u8) -> Result<Self, Refusal>
         ensures { Opened (opening_for (L.Lattice.directions lattice) (L.Lattice.motions lattice) (L.Lattice.onesided lattice) size kind) result (λ s o. opened s o × (Self.Source.stands s ≡ standing [] (listing o))) };
 

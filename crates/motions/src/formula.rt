@@ -28,23 +28,38 @@ impl fmt::Display for Sum {
         let terms = [(a, 'a'), (b, 'b'), (c, 'c')];
         let written = terms.iter().filter(|(factor, _)| *factor != 0);
         for (place, (factor, letter)) in written.enumerate() {
-            write_term(f, place == 0, *factor, *letter)?;
+            let term = Term {
+                first: place == 0,
+                factor: *factor,
+                letter: *letter,
+            };
+            write!(f, "{term}")?;
         }
         Ok(())
     }
 }
 
-fn write_term<W: fmt::Write>(
-    f: &mut fmt::Formatter<W>,
+// A factor and its letter, behind a plus where that must stand.
+#[derive(Clone, Copy)]
+struct Term {
     first: bool,
     factor: i8,
     letter: char,
-) -> fmt::Result {
-    match factor {
-        1 if first => write!(f, "{letter}"),
-        1 => write!(f, "+{letter}"),
-        -1 => write!(f, "-{letter}"),
-        _ if first => write!(f, "{factor}{letter}"),
-        _ => write!(f, "{factor:+}{letter}"),
+}
+
+impl fmt::Display for Term {
+    fn fmt<W: fmt::Write>(&self, f: &mut fmt::Formatter<W>) -> fmt::Result {
+        let Term {
+            first,
+            factor,
+            letter,
+        } = *self;
+        match factor {
+            1 if first => write!(f, "{letter}"),
+            1 => write!(f, "+{letter}"),
+            -1 => write!(f, "-{letter}"),
+            _ if first => write!(f, "{factor}{letter}"),
+            _ => write!(f, "{factor:+}{letter}"),
+        }
     }
 }

@@ -21,6 +21,7 @@ use std::fmt;
 use std::io::{BufRead, BufReader, BufWriter, Read, Write};
 
 // A name has at most 9 bytes, and then the line's end: no line of more bytes names a lattice.
+// `piece` reads its line by the same three calls: to share them would want a crate of their own, and be no plainer.
 const LONGEST_LINE: u64 = 10;
 
 fn main(rt: HostRuntime) -> anyhow::Result<()> {

@@ -17,7 +17,7 @@ use report::print_piece;
 use request::{Request, read_request};
 use std::io::{BufRead, BufReader, Read};
 
-// No line of more bytes is read.
+// No line of more bytes is read. `motions` reads its line by the same three calls: to share them would want a crate of their own.
 const LONGEST_LINE: u64 = 4096;
 
 fn main(rt: HostRuntime) -> anyhow::Result<()> {

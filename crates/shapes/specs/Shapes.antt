@@ -3,7 +3,8 @@
 --     made r              a result of making a shape, by its cells
 --     wide x              the cell with the coordinates x
 --     if_in_reach x       the cell x, if it is in reach
-use Rattle.std.specs.Prelude.{cond, List, Some, None, Option, Ok, Err, Result}
+use Rattle.std.specs.Prelude.{List, Option, Ok, Err, Result}
+use Rattle.std.specs.Bool.{then_some}
 use Rattle.lattice.specs.declared.cell.Cell.{Cell}
 use Rattle.lattice.specs.Cells.{cell, in_reach}
 use Rattle.shapes.specs.declared.coordinates.Coordinates.{Coordinates}
@@ -21,4 +22,4 @@ abbrev pub wide : Coordinates → Cell
 wide x = cell x.a x.b x.c
 
 abbrev pub if_in_reach : Cell → Option Cell
-if_in_reach x = cond (in_reach x) (Some x) None
+if_in_reach x = then_some (in_reach x) x

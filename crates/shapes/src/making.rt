@@ -79,7 +79,7 @@ fn in_bounds(x: Coordinates) -> Option<Cell>
         b: i8::try_from(x.b).ok()?,
         c: i8::try_from(x.c).ok()?,
     };
-    if cell.is_in_reach() { Some(cell) } else { None }
+    cell.is_in_reach().then_some(cell)
 }
 
 // The cell is the origin if it is the first, and otherwise greater than the one before.
