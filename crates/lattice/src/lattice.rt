@@ -15,10 +15,6 @@ pub trait Lattice {
 
     const MOTIONS: u8;
 
-    ghost DIRECTIONS: { ℕ };
-
-    ghost MOTIONS: { ℕ };
-
     ghost letters: { Self → List ℕ };
 
     ghost directions: { Self → List Cell };
@@ -30,23 +26,20 @@ pub trait Lattice {
     // What each lattice must prove.
     ghost rules: { (s : Self) → Rules (letters s) (directions s) (motions s) (onesided s) };
 
-    // The constant NAME. Each lattice says so itself: a constant that is a reference has an address, so no ghost member can equal it.
+    // Each lattice says its name and its counts itself, the built-in ones by their constants. The trait does not say them for all:
+    // a lattice that holds data has counts of its own in each value, so no law may tie them to a constant.
+
+    // The constant NAME.
     fn title(&self) -> &'static str
         ensures { result.now ≡ letters self.now };
 
     // The constant DIRECTIONS.
     fn direction_count(&self) -> u8
-        ensures { result ≡ length (directions self.now) }
-    {
-        Self::DIRECTIONS
-    }
+        ensures { result ≡ length (directions self.now) };
 
     // The constant MOTIONS.
     fn motion_count(&self) -> u8
-        ensures { result ≡ length (motions self.now) }
-    {
-        Self::MOTIONS
-    }
+        ensures { result ≡ length (motions self.now) };
 
     fn direction(&self, number: u8) -> Cell
         ensures { result ≡ direction_at (directions self.now) number };
@@ -61,9 +54,4 @@ pub trait Lattice {
 
     fn is_one_sided(&self, motion: u8) -> bool
         ensures { result ≡ in_one_sided (motions self.now) (onesided self.now) motion };
-
-    // Every lattice of the type has these numbers of directions and motions.
-    ghost direction_count_is: { (s : Self) → length (directions s) ≡ DIRECTIONS };
-
-    ghost motion_count_is: { (s : Self) → length (motions s) ≡ MOTIONS };
 }

@@ -1,3 +1,4 @@
+pub mod Counts
 pub mod NearCells
 pub mod Turns
 pub mod Orders

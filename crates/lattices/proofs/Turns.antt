@@ -13,7 +13,7 @@ use Rattle.lattice.specs.Coordinates.{cell_same, within_says}
 use Rattle.lattice.proofs.Products.{image_product, image_identity}
 use Rattle.lattices.specs.declared.near_cell.NearCell.{NearCell}
 use Rattle.lattices.specs.Plane.{swap, swaps, turns, plane_motion, plane_motions}
-use Rattle.lattices.specs.Lawful.{plane_count}
+use Rattle.lattices.proofs.Counts.{plane_count}
 use Rattle.lattices.specs.Square.{square_turn}
 use Rattle.lattices.specs.Hex.{hex_turn}
 

@@ -1,8 +1,7 @@
 -- A proof that the cubic lattice keeps the rules, from one test that is computed over the whole table of products.
 -- It defines nothing that a contract means.
-use Rattle.std.specs.Prelude.{◌≡◌, ℕ, ◌<◌, true, List, [], ◌∷◌, length, slice_index, slice_index_or, refl}
+use Rattle.std.specs.Prelude.{◌≡◌, ℕ, ◌<◌, true, List, [], ◌∷◌, slice_index, slice_index_or, refl}
 use Rattle.std.specs.Int.Count.{ones}
-use Rattle.std.proofs.lemmas.List.FromFn.{length-map-range_with_len}
 use Rattle.lattice.specs.Matrices.{image, row_times, product, identity, same_matrix}
 use Rattle.lattice.specs.Lattices.{number_after, Rules}
 use Rattle.lattice.proofs.Lawful.{lawful, rules, after_is}
@@ -70,10 +69,6 @@ undo g = slice_index (0 ∷ 1 ∷ 2 ∷ 3 ∷ 4 ∷ 5 ∷ 6 ∷ 7 ∷ 16 ∷ 18 
 cubic_lawful : lawful cubic_name cubic_directions cubic_motion 48 cubic_one_sided table_after undo ≡ true
 unfolding lawful image product row_times identity same_matrix cubic_motion cubic_one_sided table table_after undo ones
 cubic_lawful = refl
-
-pub cubic_count : length cubic_motions ≡ 48
-unfolding cubic_motions
-cubic_count = length-map-range_with_len cubic_motion 0 48
 
 pub cubic_rules : Rules cubic_name cubic_directions cubic_motions cubic_one_sided
 unfolding cubic_motions

@@ -1,6 +1,5 @@
 -- Proofs that the lattices keep the rules, each from one test that is computed. They define nothing that a contract means.
-use Rattle.std.specs.Prelude.{◌≡◌, ℕ, ◌-◌, ◌*◌, ◌%◌, Bool, true, cond, List, length, nat_lt, refl}
-use Rattle.std.proofs.lemmas.List.FromFn.{length-map-range_with_len}
+use Rattle.std.specs.Prelude.{◌≡◌, ℕ, ◌-◌, ◌*◌, ◌%◌, Bool, true, cond, List, nat_lt, refl}
 use Rattle.lattice.specs.declared.cell.Cell.{Cell}
 use Rattle.lattice.specs.Matrices.{Matrix, image, row_times, product, identity, same_matrix}
 use Rattle.lattice.specs.Lattices.{number_after, Rules}
@@ -8,9 +7,6 @@ use Rattle.lattice.proofs.Lawful.{lawful, rules, after_all}
 use Rattle.lattices.specs.Plane.{swap, plane_motion, plane_motions, plane_after}
 use Rattle.lattices.specs.Square.{square_name, square_directions, square_turn, square_motions, square_one_sided}
 use Rattle.lattices.specs.Hex.{hex_name, hex_directions, hex_turn, hex_motions, hex_one_sided}
-
-pub plane_count : (turn : Matrix) (n : ℕ) → length (plane_motions turn n) ≡ 2 * n
-plane_count turn n = length-map-range_with_len (plane_motion turn n) 0 (2 * n)
 
 -- the turns undo one another, and a swap undoes itself
 abbrev plane_undo : ℕ → ℕ → ℕ
@@ -32,10 +28,6 @@ pub square_motions_are : square_motions ≡ plane_motions square_turn 4
 unfolding square_motions
 square_motions_are = refl
 
-pub square_count : length square_motions ≡ 8
-unfolding square_motions
-square_count = plane_count square_turn 4
-
 pub square_rules : Rules square_name square_directions square_motions square_one_sided
 unfolding square_motions
 square_rules = plane_rules square_name square_directions square_turn 4 square_one_sided square_lawful
@@ -51,10 +43,6 @@ hex_lawful = refl
 pub hex_motions_are : hex_motions ≡ plane_motions hex_turn 6
 unfolding hex_motions
 hex_motions_are = refl
-
-pub hex_count : length hex_motions ≡ 12
-unfolding hex_motions
-hex_count = plane_count hex_turn 6
 
 pub hex_rules : Rules hex_name hex_directions hex_motions hex_one_sided
 unfolding hex_motions

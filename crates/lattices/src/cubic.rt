@@ -3,7 +3,7 @@ ghost use Rattle.std.specs.Prelude.{◌≡◌, ◌<◌, true, ◌*ℤ◌, refl};
 ghost use Rattle.lattice.specs.Cells.{from_to};
 ghost use Rattle.lattice.specs.Matrices.{image as carried};
 ghost use Rattle.lattices.specs.Cubic.{cubic_name, cubic_directions, order_of, sign, signs, cubic_motions, cubic_one_sided};
-ghost use Rattle.lattices.specs.CubicTable.{cubic_count, cubic_rules};
+ghost use Rattle.lattices.specs.CubicTable.{cubic_rules};
 
 use crate::cubic_table::AFTER;
 use crate::directions::direction;
@@ -66,10 +66,6 @@ impl Lattice for Cubic {
 
     const MOTIONS: u8 = 48;
 
-    ghost DIRECTIONS = { 6 };
-
-    ghost MOTIONS = { 48 };
-
     ghost letters = { λ _. cubic_name };
 
     ghost directions = { λ _. cubic_directions };
@@ -80,12 +76,16 @@ impl Lattice for Cubic {
 
     ghost rules = { λ _. cubic_rules };
 
-    ghost direction_count_is = { λ _. refl };
-
-    ghost motion_count_is = { λ _. cubic_count };
-
     fn title(&self) -> &'static str {
         Self::NAME
+    }
+
+    fn direction_count(&self) -> u8 {
+        Self::DIRECTIONS
+    }
+
+    fn motion_count(&self) -> u8 {
+        Self::MOTIONS
     }
 
     fn direction(&self, number: u8) -> Cell {

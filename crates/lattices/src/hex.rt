@@ -2,7 +2,7 @@
 ghost use Rattle.std.specs.Prelude.{refl};
 ghost use Rattle.std.proofs.Common.{lit≤};
 ghost use Rattle.lattices.specs.Hex.{hex_name, hex_directions, hex_turn, hex_motions, hex_one_sided};
-ghost use Rattle.lattices.specs.Lawful.{hex_count, hex_rules, hex_motions_are, hex_after};
+ghost use Rattle.lattices.specs.Lawful.{hex_rules, hex_motions_are, hex_after};
 
 use crate::directions::direction;
 use crate::near_cell::NearCell;
@@ -59,10 +59,6 @@ impl Lattice for Hex {
 
     const MOTIONS: u8 = 12;
 
-    ghost DIRECTIONS = { 6 };
-
-    ghost MOTIONS = { 12 };
-
     ghost letters = { λ _. hex_name };
 
     ghost directions = { λ _. hex_directions };
@@ -73,12 +69,16 @@ impl Lattice for Hex {
 
     ghost rules = { λ _. hex_rules };
 
-    ghost direction_count_is = { λ _. refl };
-
-    ghost motion_count_is = { λ _. hex_count };
-
     fn title(&self) -> &'static str {
         Self::NAME
+    }
+
+    fn direction_count(&self) -> u8 {
+        Self::DIRECTIONS
+    }
+
+    fn motion_count(&self) -> u8 {
+        Self::MOTIONS
     }
 
     fn direction(&self, number: u8) -> Cell {

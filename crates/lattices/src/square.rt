@@ -2,7 +2,7 @@
 ghost use Rattle.std.specs.Prelude.{refl};
 ghost use Rattle.std.proofs.Common.{lit≤};
 ghost use Rattle.lattices.specs.Square.{square_name, square_directions, square_turn, square_motions, square_one_sided};
-ghost use Rattle.lattices.specs.Lawful.{square_count, square_rules, square_motions_are, square_after};
+ghost use Rattle.lattices.specs.Lawful.{square_rules, square_motions_are, square_after};
 
 use crate::directions::direction;
 use crate::near_cell::NearCell;
@@ -55,10 +55,6 @@ impl Lattice for Square {
 
     const MOTIONS: u8 = 8;
 
-    ghost DIRECTIONS = { 4 };
-
-    ghost MOTIONS = { 8 };
-
     ghost letters = { λ _. square_name };
 
     ghost directions = { λ _. square_directions };
@@ -69,12 +65,16 @@ impl Lattice for Square {
 
     ghost rules = { λ _. square_rules };
 
-    ghost direction_count_is = { λ _. refl };
-
-    ghost motion_count_is = { λ _. square_count };
-
     fn title(&self) -> &'static str {
         Self::NAME
+    }
+
+    fn direction_count(&self) -> u8 {
+        Self::DIRECTIONS
+    }
+
+    fn motion_count(&self) -> u8 {
+        Self::MOTIONS
     }
 
     fn direction(&self, number: u8) -> Cell {

@@ -4,7 +4,7 @@ use Rattle.lattice.specs.Matrices.{image}
 use Rattle.lattice.specs.Lattices.{image_under}
 use Rattle.lattices.proofs.NearCells.{near_is}
 use Rattle.lattices.proofs.Turns.{image_turn, image_swap}
-use Rattle.lattices.specs.Lawful.{plane_count}
+use Rattle.lattices.proofs.Counts.{plane_count}
 use Rattle.lattices.specs.Plane.{turns, plane_motions}
 use Rattle.lattices.proofs.plane.image.Goals as goal
 

@@ -1,6 +1,6 @@
 use Rattle.std.proofs.Common.{arith}
 use Rattle.std.proofs.lemmas.Bool.Decides.{nat_tests}
-use Rattle.lattices.specs.Lawful.{plane_count}
+use Rattle.lattices.proofs.Counts.{plane_count}
 use Rattle.lattices.proofs.plane.is_turn.Goals as goal
 
 pub returns : goal.returns

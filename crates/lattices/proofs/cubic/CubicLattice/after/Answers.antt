@@ -4,7 +4,7 @@ use Rattle.lattice.specs.Lattices.{number_after}
 use Rattle.lattice.proofs.Numbers.{in_turn}
 use Rattle.lattices.specs.Cubic.{cubic_motions}
 use Rattle.lattices.specs.CubicTable.{table, table_after, cubic_rules, cubic_after}
-use Rattle.lattices.specs.CubicTable.{cubic_count}
+use Rattle.lattices.proofs.Counts.{cubic_count}
 use Rattle.lattices.proofs.cubic.CubicLattice.after.Goals as goal
 
 pub returns-then-g-ge-MOTIONS : goal.returns-then-g-ge-MOTIONS

@@ -5,7 +5,7 @@ use Rattle.lattice.specs.Matrices.{image}
 use Rattle.lattices.specs.Cubic.{signs, cubic_motions}
 use Rattle.lattices.proofs.NearCells.{near_is}
 use Rattle.lattices.proofs.Orders.{image_in}
-use Rattle.lattices.specs.CubicTable.{cubic_count}
+use Rattle.lattices.proofs.Counts.{cubic_count}
 use Rattle.lattices.proofs.cubic.CubicLattice.image.Goals as goal
 
 pub returns-in-Some : goal.returns-in-Some
