@@ -1,5 +1,5 @@
 use Rattle.std.proofs.Common.{◌<◌, length, get_or, sym, ap, ◌∙◌, subst, inl, inr, arith}
-use Rattle.ordered.proofs.Rooms.{has_room, pushed_behind}
+use Rattle.ordered.proofs.Rooms.{pushed_behind}
 use Rattle.lattice.specs.Cells.{origin, Within}
 use Rattle.shapes.proofs.Bounds.{within_more}
 use Rattle.walk.specs.CellsAround.{cells_around}
@@ -13,9 +13,6 @@ use Rattle.walk.proofs.walking.walk.Goals.{then-contains, else-contains, then-lo
 
 pub loop-places-init : goal.loop-places-init
 loop-places-init c = midway_first (directions_in c.args.directions.now) c.args.wanted.now _ _ c.new-picks.ensures c.new-places.ensures
-
-pub unwrap-requires : goal.unwrap-requires
-unwrap-requires c = has_room 16 c.loop-places.picks c.push.result c.push.ensures.value (omega (arith, c.len.ensures.value))
 
 pub spread-requires : goal.spread-requires
 spread-requires c =

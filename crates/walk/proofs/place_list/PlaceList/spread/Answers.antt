@@ -1,13 +1,12 @@
-use Rattle.std.proofs.Common.{◌≡◌, ◌+◌, ◌<◌, length, get_or, drop, sym, ap, ◌∙◌, arith, rules}
+use Rattle.std.proofs.Common.{◌<◌, length, get_or, sym, ap, ◌∙◌, arith, rules}
 use Rattle.std.proofs.lemmas.List.{drop_all}
 use Rattle.ordered.proofs.Members.{in_get_or}
-use Rattle.lattice.specs.Cells.{origin, plus}
+use Rattle.lattice.specs.Cells.{origin}
 use Rattle.shapes.specs.Positions.{neighbours}
 use Rattle.walk.specs.CellsAround.{cells_around}
 use Rattle.walk.specs.PlaceLists.{place_cells, directions_in}
-use Rattle.walk.specs.Places.{put, put_all}
-use Rattle.walk.proofs.Around.{sum_is, within_all_pass, put_more, spread_is}
-use Rattle.walk.proofs.Bounds.{length_put}
+use Rattle.walk.specs.Places.{put_all}
+use Rattle.walk.proofs.Around.{sum_is, within_all_pass, spread_is}
 use Rattle.walk.proofs.place_list.PlaceList.spread.Goals as goal
 
 pub unwrap-requires : goal.unwrap-requires
@@ -18,20 +17,6 @@ unwrap-requires c =
     let l : k < length ds = omega (arith, ap length c.as_slice-step-items.ensures.value) in
     let short = within_all_pass 1 ds d.short (get_or ds k origin) (in_get_or ds k origin l) in
     rw (sum_is c.args.from (get_or ds k origin) c.checked_add.result c.requires.near short (rw c.as_slice-step-items.ensures.value at c.checked_add.ensures)) (search rules)
-
-pub loop-step-preserved : goal.loop-step-preserved
-loop-step-preserved c =
-    let d = c.args.directions.now in
-    let ds = directions_in d in
-    let g = cells_around ds in
-    let k = c.loop-step.step-index in
-    let P = place_cells c.loop-step.self in
-    let l : k < length ds = omega (arith, ap length c.as_slice-step-items.ensures.value) in
-    let x : c.unwrap.result ≡ plus c.args.from (get_or ds k origin) = (rw (c.unwrap.ensures, c.as_slice-step-items.ensures.value) at c.checked_add.ensures).1 in
-    let e : place_cells c.put.new.self ≡ put g P (plus c.args.from (get_or ds k origin)) = c.put.ensures ds ∙ ap (put g P) x in (
-      omega (arith, ap length e, length_put g P (plus c.args.from (get_or ds k origin)), c.loop-step.invariant.0),
-      ap (λ Q. put_all g Q (neighbours (drop (k + 1) ds) c.args.from)) e ∙ sym (put_more ds P c.args.from k l) ∙ c.loop-step.invariant.1,
-    )
 
 pub returns : goal.returns
 returns c =
