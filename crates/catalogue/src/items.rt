@@ -23,6 +23,7 @@ pub(crate) trait Item {
         ensures after { rest.new ≡ over (text self.now) rest.old };
 }
 
+// The buffer comes whole, with the place beside it, since the clause says what the whole of it is then.
 // Writes the mark and the item behind what a buffer holds up to `at`, and tells where they end.
 pub(crate) fn put_behind<T: Item>(buffer: &mut [u8], at: usize, mark: u8, item: &T) -> usize
     requires { at + (1 + length (T.text item.now)) ≤ length buffer.old }

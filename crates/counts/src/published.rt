@@ -82,7 +82,7 @@ impl fmt::Display for Comparison {
         write!(
             f,
             "{lattice}, size {SIZE}, {}: {listed} listed, {published} published, {verdict}",
-            kind.word()
+            kind
         )
     }
 }

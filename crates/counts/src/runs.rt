@@ -115,7 +115,7 @@ fn write_calls<O: Write>(out: &mut O, calls: &[Call], answers: &[Answer]) -> io:
         out,
         "\nCalls of a lister just opened on {}, size {CALLS_SIZE}, {}",
         Square.title(),
-        KIND.word()
+        KIND
     )?;
     for (call, answer) in calls.iter().zip(answers) {
         writeln!(out, "{call}: {answer}")?;
@@ -129,7 +129,7 @@ fn write_nexts<O: Write>(out: &mut O, first: Entry, replies: &[Answer]) -> io::R
         out,
         "\nNexts of a pile of two sieves upon a lister of {}, size {PILE_SIZE}, {}, that had handed out one entry",
         Square.title(),
-        KIND.word()
+        KIND
     )?;
     writeln!(
         out,

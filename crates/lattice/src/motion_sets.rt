@@ -36,7 +36,7 @@ impl MotionSet {
         find(self.as_slice(), &motion).is_ok()
     }
 
-    // One motion more, if its number is at most 47; tells whether the set has it now: a yes or no with no value beside it, as std's sets answer.
+    // One motion more, if its number is at most 47; tells whether the set has it now: a yes or no, with no value beside it.
     pub fn insert(&mut self, motion: u8) -> bool
         ensures value { result ≡ nat_lt motion 48 }
         ensures after { set_motions self.new ≡ (if nat_lt motion 48 then inserted nat_lt motion (set_motions self.old) else set_motions self.old) }

@@ -92,7 +92,7 @@ fn kinds(rt: HostRuntime) -> Result<(), Fail> {
     let fixed = motions_of_kind(&Square, 0).map_err(|_| Fail::new("fixed is a kind"))?;
     assert_eq!(rt; fixed.len(), 1);
     let refusal = motions_of_kind(&Square, 3).err();
-    assert_eq!(rt; refusal.map(Refusal::number), Some(2));
+    assert_eq!(rt; refusal.map(u8::from), Some(2));
     Ok(())
 }
 

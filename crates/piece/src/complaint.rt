@@ -27,7 +27,7 @@ impl<T: Drop> From<AllocFailed<T>> for Complaint {
     ghost from_gives = { λ _ r. r ≡ no_memory };
 
     fn from(_refused: AllocFailed<T>) -> Complaint {
-        Complaint::Memory
+        Self::Memory
     }
 }
 

@@ -23,7 +23,7 @@ pub(super) fn print_piece<L: Lattice>(
         "the kind has no motions"
     ))?;
     let mut out = BufWriter::new(rt.alloc(), rt.stdout())?;
-    writeln!(out, "piece {shape} on {}, {}", lattice.title(), kind.word())?;
+    writeln!(out, "piece {shape} on {}, {}", lattice.title(), kind)?;
     write_walk(&mut out, lattice, shape)?;
     write_class(&mut out, lattice, &set, shape)?;
     write_orientations(&mut out, lattice, &set, shape)?;

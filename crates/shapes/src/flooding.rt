@@ -21,7 +21,6 @@ fn is_at<L: Lattice>(lattice: &L, x: Cell, y: Cell) -> bool
     if x == y {
         return true;
     }
-    // by number: a lattice tells its directions one by one, and has no list of them to lend
     for k in 0..lattice.direction_count() {
         if x.checked_add(lattice.direction(k)) == Some(y) {
             return true;

@@ -12,7 +12,6 @@ use crate::shape_fault::ShapeFault;
 use lattice::cell::Cell;
 use lattice::refusal::Refusal;
 use ordered::array_list::ArrayList;
-use ordered::order::TotalOrder;
 
 // The most cells that a shape has.
 pub const MOST_CELLS: usize = 16;
@@ -42,7 +41,8 @@ impl ShapeFault {
     }
 }
 
-// What says where a cell is to be: a cell, or coordinates that may be those of none.
+// What says where a cell is to be: a cell, or coordinates that may be those of none. It is no `Into<Coordinates>`: what that promises is
+// a relation, and with it the proof of `admit_all` did not close.
 trait Locates: Copy {
     ghost located: { Self → CellValue };
 
@@ -87,8 +87,8 @@ fn follows(before: Option<Cell>, x: Cell) -> bool
     ensures { result ≡ in_order before x }
 {
     match before {
-        None => x.order(&Cell::ORIGIN).is_eq(),
-        Some(y) => y.order(&x).is_lt(),
+        None => x == Cell::ORIGIN,
+        Some(y) => y < x,
     }
 }
 
