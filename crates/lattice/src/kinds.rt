@@ -1,5 +1,5 @@
 // Which motions a kind uses.
-ghost use Rattle.std.specs.Prelude.{◌≡◌, ◌<◌, length, Ok};
+ghost use Rattle.std.specs.Prelude.{◌≡◌, ◌<◌, length, Ok, Some};
 ghost use Rattle.lattice.specs.declared.motion_set.MotionSet.{MotionSet};
 ghost use Rattle.lattice.specs.Kinds.{kind_number, numbered_kind, kind_name, named_kind, uses as uses_motion, numbered_motions, Closed, set_motions};
 ghost use Rattle.lattice.specs.Refusals.{answer};
@@ -59,6 +59,8 @@ impl TryFrom<&[u8]> for Kind {
 }
 
 impl Display for Kind {
+    ghost output = { λ k. Some (kind_name k) };
+
     fn fmt<W: fmt::Write>(&self, f: &mut fmt::Formatter<W>) -> fmt::Result {
         f.write_str(self.word())
     }

@@ -6,3 +6,4 @@ pub mod Made
 pub mod Listers
 pub mod Runs
 pub mod Turns
+pub mod Words

@@ -1,4 +1,6 @@
 // Calls, their answers and the stops of a run in words.
+ghost use Rattle.listing.specs.Words.{call_text, answer_text, whereabouts_text, stop_text};
+
 use crate::calls::{Answer, Call, Stop};
 use crate::whereabouts::Whereabouts;
 use shapes::shown::Spaced;
@@ -6,6 +8,8 @@ use std::error::Error;
 use std::fmt;
 
 impl fmt::Display for Call {
+    ghost output = { call_text };
+
     fn fmt<W: fmt::Write>(&self, f: &mut fmt::Formatter<W>) -> fmt::Result {
         match self {
             Call::Next => write!(f, "next"),
@@ -15,6 +19,8 @@ impl fmt::Display for Call {
 }
 
 impl fmt::Display for Answer {
+    ghost output = { answer_text };
+
     fn fmt<W: fmt::Write>(&self, f: &mut fmt::Formatter<W>) -> fmt::Result {
         match self {
             Answer::Handed(entry) => write!(
@@ -31,6 +37,8 @@ impl fmt::Display for Answer {
 }
 
 impl fmt::Display for Whereabouts {
+    ghost output = { whereabouts_text };
+
     fn fmt<W: fmt::Write>(&self, f: &mut fmt::Formatter<W>) -> fmt::Result {
         match self {
             Whereabouts::Given => write!(f, "given"),
@@ -41,6 +49,8 @@ impl fmt::Display for Whereabouts {
 }
 
 impl fmt::Display for Stop {
+    ghost output = { stop_text };
+
     fn fmt<W: fmt::Write>(&self, f: &mut fmt::Formatter<W>) -> fmt::Result {
         match self {
             Stop::Opening(_) => write!(f, "the lister was not opened"),

@@ -17,3 +17,4 @@ pub mod Representatives
 pub mod Members
 pub mod Firsts
 pub mod Orientations
+pub mod Prints

@@ -8,3 +8,4 @@ pub mod Shapes
 pub mod Members
 pub mod Representatives
 pub mod Entries
+pub mod Prints

@@ -1,4 +1,6 @@
 // Cells and numbers in print.
+ghost use Rattle.shapes.specs.Prints.{spaced, shape_text};
+
 use crate::shape::Shape;
 use std::fmt;
 
@@ -7,10 +9,15 @@ use std::fmt;
 pub struct Spaced<'a, T>(pub &'a [T]);
 
 impl<T: fmt::Display> fmt::Display for Spaced<'_, T> {
+    ghost output = { λ s. spaced T.output s.0.now };
+
     fn fmt<W: fmt::Write>(&self, f: &mut fmt::Formatter<W>) -> fmt::Result {
-        for (i, item) in self.0.iter().enumerate() {
-            let gap = if i == 0 { "" } else { " " };
-            write!(f, "{gap}{item}")?;
+        let Some((first, rest)) = self.0.split_first() else {
+            return Ok(());
+        };
+        write!(f, "{first}")?;
+        for item in rest {
+            write!(f, " {item}")?;
         }
         Ok(())
     }
@@ -18,6 +25,8 @@ impl<T: fmt::Display> fmt::Display for Spaced<'_, T> {
 
 // Its cells as a text has them: `0,0,0 1,0,0`.
 impl fmt::Display for Shape {
+    ghost output = { shape_text };
+
     fn fmt<W: fmt::Write>(&self, f: &mut fmt::Formatter<W>) -> fmt::Result {
         let cells = Spaced(self.cells());
         write!(f, "{cells}")
