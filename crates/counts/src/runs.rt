@@ -87,14 +87,17 @@ fn make_shape(cells: &[Cell]) -> anyhow::Result<Shape>
 }
 
 fn make_calls() -> anyhow::Result<[Call; 7]> {
+    let corner = make_shape(&CORNER)?;
+    let row = make_shape(&ROW)?;
+    let diagonal = make_shape(&DIAGONAL)?;
     Ok([
         Call::Next,
-        Call::Ask(make_shape(&CORNER)?),
-        Call::Ask(make_shape(&ROW)?),
+        Call::Ask(corner),
+        Call::Ask(row),
         Call::Next,
         Call::Next,
-        Call::Ask(make_shape(&ROW)?),
-        Call::Ask(make_shape(&DIAGONAL)?),
+        Call::Ask(row),
+        Call::Ask(diagonal),
     ])
 }
 

@@ -11,6 +11,7 @@
 use Rattle.std.specs.Prelude.{ℕ, zero, suc, ◌<◌, Bool, true, cond, List, [], ◌∷◌, length, Ok, Err, codes, filter, Result, ◌==◌, nat_lt}
 use Rattle.std.specs.List.{range_with_len}
 use Rattle.std.specs.Str.{bytes_eq}
+use Rattle.ordered.specs.Items.{items_of}
 use Rattle.ordered.specs.Members.{In}
 use Rattle.ordered.specs.Orders.{Ascending}
 use Rattle.lattice.specs.declared.kind.Kind.{Kind}
@@ -65,4 +66,4 @@ pub record Closed (ms : List Matrix) (gs : List ℕ) : Type 0 where
   pub after : (g h : ℕ) → In g gs → In h gs → In (number_after ms g h) gs
 
 abbrev pub set_motions : MotionSet → List ℕ
-set_motions s = s.motions
+set_motions s = items_of s.motions

@@ -57,7 +57,9 @@ impl TotalOrder for Cell {
 
     ghost total = { cell_order };
 
-    ghost ranked = { cell_ranked };
+    fn order(&self, other: &Cell) -> Ordering {
+        self.cmp(other)
+    }
 }
 
 impl Filler for Cell {

@@ -13,8 +13,8 @@ blank_behind n count b slots blank =
     ∙ drop-replicate 1 (n - count) b
     ∙ ap (λ k. replicate k b) (omega arith)
 
-pub blank_behind_set : {X : Type 0} (n count : ℕ) (b x : X) (slots : List X) → drop count slots ≡ replicate (n - count) b → drop (count + 1) (set slots count x) ≡ replicate (n - (count + 1)) b
-blank_behind_set n count b x slots blank = drop-set-lt (count + 1) slots count x (omega arith) ∙ blank_behind n count b slots blank
+pub blank_behind_set : {X : Type 0} (n count at : ℕ) (b x : X) (slots : List X) → at ≤ count → drop count slots ≡ replicate (n - count) b → drop (count + 1) (set slots at x) ≡ replicate (n - (count + 1)) b
+blank_behind_set n count at b x slots here blank = drop-set-lt (count + 1) slots at x (omega (arith, here)) ∙ blank_behind n count b slots blank
 
 -- a push with room is done
 pub has_room : {X E : Type 0} (n : ℕ) (xs : List X) (r : Result (Unit {0}) E) → is_ok r ≡ nat_lt (length xs) n → length xs < n → IsOk r

@@ -2,3 +2,4 @@ pub mod Members
 pub mod Orders
 pub mod Lookups
 pub mod Rooms
+pub mod Items

@@ -2,6 +2,7 @@
 #![tactic(auto)]
 
 pub mod array_list;
+mod array_lists;
 pub mod compare;
 pub mod filler;
 pub mod find;

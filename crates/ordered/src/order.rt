@@ -5,19 +5,15 @@ ghost use Rattle.std.proofs.Common.{rules};
 
 use std::cmp::Ordering;
 
-// A kind of item whose comparison tells all different items apart. `less` tells of two items whether the first is less.
-pub trait TotalOrder: Ord {
+// A kind of item with a total order. `less` tells of two items whether the first is less.
+// It asks for no `Ord`: an item may be ordered here in another way than by its own comparison, or have none.
+pub trait TotalOrder {
     ghost less: { Self → Self → Bool };
 
     fn order(&self, other: &Self) -> Ordering
-        ensures { result ≡ rank less self.now other.now }
-    {
-        self.cmp(other)
-    }
+        ensures { result ≡ rank less self.now other.now };
 
     ghost total: { StrictTotal less };
-
-    ghost ranked: { (x y : Self) → Self.cmp x y ≡ rank less x y };
 }
 
 impl TotalOrder for u8 {
@@ -25,7 +21,9 @@ impl TotalOrder for u8 {
 
     ghost total = { Prim.search rules };
 
-    ghost ranked = { Prim.search rules };
+    fn order(&self, other: &u8) -> Ordering {
+        u8::cmp(self, other)
+    }
 }
 
 impl TotalOrder for usize {
@@ -33,5 +31,7 @@ impl TotalOrder for usize {
 
     ghost total = { Prim.search rules };
 
-    ghost ranked = { Prim.search rules };
+    fn order(&self, other: &usize) -> Ordering {
+        self.cmp(other)
+    }
 }

@@ -1,7 +1,12 @@
+ghost use Rattle.std.specs.Prelude.{◌≡◌, nat_lt};
+ghost use Rattle.ordered.specs.Orders.{rank};
+ghost use Rattle.std.proofs.Common.{rules};
+
 use crate::array_list::{ArrayList, Full};
 use crate::compare::compare;
 use crate::find::find;
 use crate::insert::{NotInserted, insert};
+use crate::order::TotalOrder;
 use std::cmp::Ordering;
 
 #[test]
@@ -58,4 +63,29 @@ fn fills_up(rt: HostRuntime) {
     assert_eq!(rt; list.insert(4), Err(NotInserted::Full));
     assert!(rt; list.as_slice() == [2, 6, 8].as_slice());
     assert_eq!(rt; list.len(), 3);
+}
+
+// A caller's own kind of item, the greatest first, with no comparison besides.
+#[derive(Clone, Copy)]
+struct Countdown {
+    number: u8,
+}
+
+impl TotalOrder for Countdown {
+    ghost less = { λ x y. nat_lt y.number x.number };
+
+    ghost total = { Prim.search rules };
+
+    fn order(&self, other: &Countdown) -> Ordering {
+        other.number.cmp(&self.number)
+    }
+}
+
+#[test]
+fn orders_items_of_a_caller(rt: HostRuntime) {
+    let mut slots = [9, 4, 2, 0].map(|number| Countdown { number });
+    assert_eq!(rt; find(&slots[0..3], &Countdown { number: 4 }), Ok(1));
+    assert_eq!(rt; compare(&slots[0..1], &slots[1..2]), Ordering::Less);
+    assert_eq!(rt; insert(&mut slots, 3, Countdown { number: 5 }), Ok(1));
+    assert_eq!(rt; slots.map(|item| item.number), [9, 5, 4, 2]);
 }

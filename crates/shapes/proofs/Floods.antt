@@ -1,5 +1,5 @@
 -- A flood holds exactly what is reached.
-use Rattle.std.proofs.Common.{◌≡◌, ℕ, zero, suc, ◌<◌, ◌≤◌, Bool, true, false, cond, ◌||◌, ◌⊎◌, ◌↔◌, List, [], ◌∷◌, length, Decides, filter, sym, refl, ap, ◌∙◌, subst, inl, inr, ⊎_elim, arith}
+use Rattle.std.proofs.Common.{◌≡◌, ℕ, zero, suc, ◌<◌, ◌≤◌, Bool, true, ◌||◌, ◌⊎◌, ◌↔◌, List, [], ◌∷◌, length, Decides, filter, sym, refl, ap, ◌∙◌, subst, inl, inr, ⊎_elim, arith}
 use Rattle.std.specs.Ordering.{is_eq}
 use Rattle.std.proofs.lemmas.Bool.{cases_eq, or_cases, or_left, or_right, false≢true, eqb-true, eq-eqb}
 use Rattle.ordered.specs.Members.{In}
@@ -7,13 +7,13 @@ use Rattle.ordered.specs.Orders.{rank}
 use Rattle.ordered.proofs.Members.{in_cast, in_kept, from_kept}
 use Rattle.ordered.proofs.Counting.{Equality}
 use Rattle.ordered.proofs.Kept.{length_kept_le, kept_all, length_kept_all, kept_wider}
-use Rattle.ordered.proofs.Orders.{is_equal, same_rank, less_rank, equal_rank}
+use Rattle.ordered.proofs.Orders.{is_equal, same_rank, equal_rank}
 use Rattle.lattice.specs.declared.cell.Cell.{Cell}
 use Rattle.lattice.specs.Cells.{origin, cell_less}
 use Rattle.lattice.specs.Coordinates.{cell_order}
 use Rattle.shapes.specs.Connected.{Reached, at_start, onward, Connected}
 use Rattle.shapes.specs.Floods.{some_pass, touches, spread, flooded, flood, same_cell, connected}
-use Rattle.shapes.specs.Positions.{neighbours, NormalPosition}
+use Rattle.shapes.specs.Positions.{neighbours}
 
 -- ---- tests on lists
 pub some_pass_says : {X : Type 0} (p : X → Bool) (xs : List X) → some_pass p xs ≡ true → (x : X) × In x xs × (p x ≡ true)
@@ -28,18 +28,6 @@ pub some_pass_from : {X : Type 0} (p : X → Bool) (xs : List X) (x : X) → In 
 some_pass_from p [] x h e = absurd h
 some_pass_from p (y ∷ ys) x (inl q) e = or_left (p y) (some_pass p ys) (sym (ap p q) ∙ e)
 some_pass_from p (y ∷ ys) x (inr h) e = or_right (p y) (some_pass p ys) (some_pass_from p ys x h e)
-
-kept_none : {X : Type 0} (p : X → Bool) (xs : List X) → ((x : X) → In x xs → p x ≡ false) → filter p xs ≡ []
-kept_none p [] h = refl
-kept_none p (x ∷ xs) h = rw (h x (inl refl)) (kept_none p xs (λ y q. h y (inr q)))
-
--- the origin is once in cells in normal position
-pub origin_kept : (s : List Cell) → NormalPosition s → origin ∷ [] ≡ filter (same_cell origin) s
-origin_kept [] p = absurd p.from_origin
-origin_kept (x ∷ xs) p =
-    let rest = kept_none (same_cell origin) xs (λ y h. ap is_eq (less_rank cell_less origin y (rw p.from_origin at (p.ascending.0 y h)))) in
-    let here : same_cell origin x ≡ true = ap is_eq (equal_rank cell_less cell_order origin x (sym p.from_origin)) in
-    ap (λ z. z ∷ []) (sym p.from_origin) ∙ sym (ap (λ b. cond b (x ∷ filter (same_cell origin) xs) (filter (same_cell origin) xs)) here ∙ ap (λ l. x ∷ l) rest)
 
 module _ {X : Type 0} (same : X → X → Bool) (eq : Equality same) (near : X → List X) (start : X) (s : List X) where
   -- ---- one round

@@ -6,9 +6,9 @@
 --     first_motions ms gs s   the numbers gs, in their order, that give a member of s which no earlier one gives
 --     orientations ms gs s    each of these numbers with its member
 --     orbit_list o            the orientations in the orbit o
---     no_orientation          motion 0 and no cells, which stands where there is no orientation
 --     oriented o              the orientation o as a motion's number and a list of cells
-use Rattle.std.specs.Prelude.{ℕ, Bool, not, List, [], ◌∷◌, map, length, filter, nat_lt}
+use Rattle.std.specs.Prelude.{ℕ, Bool, not, List, [], ◌∷◌, map, length, take, filter, nat_lt}
+use Rattle.ordered.specs.Items.{items_of}
 use Rattle.lattice.specs.declared.cell.Cell.{Cell}
 use Rattle.lattice.specs.Matrices.{Matrix}
 use Rattle.lattice.specs.Lattices.{image_under}
@@ -19,7 +19,7 @@ use Rattle.shapes.specs.Classes.{same_cells, moved}
 use Rattle.shapes.specs.Positions.{normal}
 
 abbrev pub placement_cells : Placement → List Cell
-placement_cells p = p.cells
+placement_cells p = items_of p.cells
 
 abbrev pub member_under : List Matrix → ℕ → List Cell → List Cell
 member_under ms g s = normal (map (image_under ms g) s)
@@ -38,10 +38,7 @@ abbrev pub orientations : List Matrix → List ℕ → List Cell → List (ℕ �
 orientations ms gs s = map (λ g. (g, moved ms g s)) (first_motions ms gs s)
 
 abbrev pub orbit_list : Orbit → List Orientation
-orbit_list o = o.orientations
+orbit_list o = take o.count o.orientations
 
 abbrev pub oriented : Orientation → ℕ × List Cell
 oriented o = (o.motion, placement_cells o.placement)
-
-abbrev pub no_orientation : Orientation
-no_orientation = record { motion = 0; placement = record { cells = [] } }

@@ -1,10 +1,11 @@
 // Making a shape, and looking at its cells.
 ghost use Rattle.std.specs.Prelude.{◌≡◌, [], ◌∷◌, map, length};
+ghost use Rattle.std.proofs.Common.{rules};
 ghost use Rattle.lattice.specs.declared.cell.Cell.{Cell as CellValue};
 ghost use Rattle.lattice.specs.Cells.{origin};
 ghost use Rattle.lattice.specs.Refusals.{refusal_number};
 ghost use Rattle.shapes.specs.Faults.{fault_number, fault_place, follows as in_order, cell_fault, unless, shape_or_fault};
-ghost use Rattle.shapes.specs.Shapes.{shape_cells, made as made_shape, wide, if_in_reach};
+ghost use Rattle.shapes.specs.Shapes.{shape_cells, made as made_shape, wide, zeros, if_in_reach};
 
 use crate::coordinates::Coordinates;
 use crate::shape::Shape;
@@ -12,6 +13,7 @@ use crate::shape_fault::ShapeFault;
 use lattice::cell::Cell;
 use lattice::refusal::Refusal;
 use ordered::array_list::ArrayList;
+use ordered::filler::Filler;
 
 // The most cells that a shape has.
 pub const MOST_CELLS: usize = 16;
@@ -39,6 +41,12 @@ impl ShapeFault {
             ShapeFault::Order(place) => place,
         }
     }
+}
+
+impl Filler for Coordinates {
+    ghost blank = { zeros };
+
+    ghost by_default = { Prim.search rules };
 }
 
 // What says where a cell is to be: a cell, or coordinates that may be those of none. It is no `Into<Coordinates>`: what that promises is

@@ -38,9 +38,8 @@ impl Condition for BoundingBox {
     ghost passing = { λ b e. fits b.w b.h b.d e };
 
     fn passes(&self, entry: &Entry) -> bool {
-        let wide = extent(&entry.shape, |cell| cell.a);
-        let high = extent(&entry.shape, |cell| cell.b);
-        let deep = extent(&entry.shape, |cell| cell.c);
-        wide <= i16::from(self.w) && high <= i16::from(self.h) && deep <= i16::from(self.d)
+        extent(&entry.shape, |cell| cell.a) <= i16::from(self.w)
+            && extent(&entry.shape, |cell| cell.b) <= i16::from(self.h)
+            && extent(&entry.shape, |cell| cell.c) <= i16::from(self.d)
     }
 }

@@ -22,10 +22,10 @@ use Rattle.walk.specs.CellsAround.{cells_around}
 use Rattle.walk.proofs.Places.{in_put_all}
 
 -- the comparison of cells by `==`
-abbrev same_numbers : Cell → Cell → Bool
+abbrev pub same_numbers : Cell → Cell → Bool
 same_numbers y x = int_eq y.a x.a && (int_eq y.b x.b && int_eq y.c x.c)
 
-same_is : (y x : Cell) → same_numbers y x ≡ same_cell x y
+pub same_is : (y x : Cell) → same_numbers y x ≡ same_cell x y
 same_is y x = search rules
 
 module _ (ds : List Cell) where
@@ -34,6 +34,11 @@ module _ (ds : List Cell) where
   unfolding cells_around
   on_any [] x = refl
   on_any (y ∷ ys) x = ap₂ (λ b d. b || d) (same_is y x) (on_any ys x)
+
+  -- the item at a place decides, or those behind it
+  pub on_more : (xs : List Cell) (x : Cell) (i : ℕ) → i < length xs → on (cells_around ds) (drop i xs) x ≡ (same_cell x (get_or xs i origin) || on (cells_around ds) (drop (i + 1) xs) x)
+  unfolding cells_around
+  on_more xs x i l = at_drop_more (λ ys. on (cells_around ds) ys x) xs i origin l
 
   -- ---- in their words
   pub first_is : first_places (cells_around ds) ≡ origin ∷ []

@@ -4,6 +4,7 @@
 --     pick_numbers p      the places picked by p
 --     picked r            the places picked, if there is a pick list
 use Rattle.std.specs.Prelude.{ℕ, List, take, Some, None, Option}
+use Rattle.ordered.specs.Items.{items_of}
 use Rattle.lattice.specs.declared.cell.Cell.{Cell}
 use Rattle.walk.specs.declared.place_list.PlaceList.{PlaceList}
 use Rattle.walk.specs.declared.direction_list.DirectionList.{DirectionList}
@@ -13,10 +14,10 @@ abbrev pub place_cells : PlaceList → List Cell
 place_cells p = take p.len p.cells
 
 abbrev pub directions_in : DirectionList → List Cell
-directions_in d = d.cells
+directions_in d = items_of d.cells
 
 abbrev pub pick_numbers : PickList → List ℕ
-pick_numbers p = p.picks
+pick_numbers p = items_of p.picks
 
 abbrev pub picked : Option PickList → Option (List ℕ)
 picked None = None

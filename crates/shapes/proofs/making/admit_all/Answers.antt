@@ -2,6 +2,7 @@ use Rattle.std.proofs.Common.{◌<◌, [], ◌∷◌, ◌++◌, map, length, sym
 use lib.ListN.{length-map}
 use Rattle.std.proofs.lemmas.Result.{err_from_is_err_and}
 use Rattle.std.proofs.lemmas.List.{take_more, get_or-map}
+use Rattle.ordered.specs.Items.{items_of}
 use Rattle.ordered.proofs.Rooms.{pushed_behind}
 use Rattle.lattice.specs.Cells.{origin}
 use Rattle.shapes.specs.Faults.{unless}
@@ -25,6 +26,6 @@ loop-place-preserved g c =
     let long = length-map c.args.places.now f in
     let l = c.loop-place in
     let i : l.place < length xs = omega (arith, long) in
-    let room : length l.cells < 16 = omega (arith, long, ap length l.invariant.1, length-take l.place xs) in
+    let room : length (items_of l.cells) < 16 = omega (arith, long, ap length l.invariant.1, length-take l.place xs) in
     let t = read_later l.place l.before xs _ i (c.coordinates.ensures ∙ ap f c.index-places-place.is ∙ sym (get_or-map f c.args.places.now l.place c.index-places-place.result origin (omega arith))) c.in_ok-cell.cell c.in_ok-cell.ensures in
-    (t.1 ∙ l.invariant.0, c.push.ensures.after ∙ pushed_behind 16 c.in_ok-cell.cell l.cells room ∙ ap₂ (λ ys y. ys ++ y ∷ []) l.invariant.1 t.0 ∙ sym (take_more xs l.place origin i))
+    (t.1 ∙ l.invariant.0, c.push.ensures.after ∙ pushed_behind 16 c.in_ok-cell.cell (items_of l.cells) room ∙ ap₂ (λ ys y. ys ++ y ∷ []) l.invariant.1 t.0 ∙ sym (take_more xs l.place origin i))

@@ -1,4 +1,5 @@
 use Rattle.std.proofs.Common.{◌≡◌, map, take, drop, None}
+use Rattle.ordered.specs.Items.{items_of}
 use Rattle.shapes.specs.Faults.{first_fault}
 use Rattle.shapes.proofs.making.admit_all.Given as goal
 
@@ -7,4 +8,4 @@ abbrev pub invariant-loop-place : goal.invariant-loop-place
 invariant-loop-place g l =
     let xs = map g.T.Locates.located l.places in
     (first_fault l.place l.before (drop l.place xs) ≡ first_fault 0 None xs)
-    × (l.cells ≡ take l.place xs)
+    × (items_of l.cells ≡ take l.place xs)

@@ -1,4 +1,5 @@
 use Rattle.std.proofs.Common.{◌<◌, length, get_or, sym, ap, ◌∙◌, subst, inl, inr, arith}
+use Rattle.ordered.specs.Items.{items_of}
 use Rattle.ordered.proofs.Rooms.{pushed_behind}
 use Rattle.lattice.specs.Cells.{origin, Within}
 use Rattle.shapes.proofs.Bounds.{within_more}
@@ -6,10 +7,10 @@ use Rattle.walk.specs.CellsAround.{cells_around}
 use Rattle.walk.specs.Neighbourhoods.{on}
 use Rattle.walk.specs.PlaceLists.{place_cells, directions_in}
 use Rattle.walk.specs.Places.{spread}
-use Rattle.walk.proofs.Around.{on_any, place_within, within_all_pass}
+use Rattle.walk.proofs.Around.{place_within, within_all_pass}
 use Rattle.walk.proofs.WalkTurns.{midway_first, midway_picks, midway_passes, midway_same, midway_ends}
 use Rattle.walk.proofs.walking.walk.Goals as goal
-use Rattle.walk.proofs.walking.walk.Goals.{then-contains, else-contains, then-loop-places-test+else-place-len, else-loop-places-test}
+use Rattle.walk.proofs.walking.walk.Goals.{then-is_wanted, else-is_wanted}
 
 pub loop-places-init : goal.loop-places-init
 loop-places-init c = midway_first (directions_in c.args.directions.now) c.args.wanted.now _ _ c.new-picks.ensures c.new-places.ensures
@@ -18,7 +19,7 @@ pub spread-requires : goal.spread-requires
 spread-requires c =
     let P = place_cells c.loop-places.places in
     let i = c.loop-places.place in
-    let n = length c.loop-places.picks in
+    let n = length (items_of c.loop-places.picks) in
     let now = c.loop-places.invariant in
     record {
       near = subst (Within 100) (sym c.get-x.ensures) (within_more n 100 (get_or P i origin) (omega (arith, now.few, c.requires)) (place_within n P i now.reach));
@@ -31,29 +32,28 @@ loop-places-preserved c =
     let ds = directions_in d in
     let S = c.args.wanted.now in
     let P = place_cells c.loop-places.places in
-    let p = c.loop-places.picks in
+    let p = items_of c.loop-places.picks in
     let i = c.loop-places.place in
     let now = c.loop-places.invariant in
     let here : i < length P = omega arith in
     let more : length p < length S = omega (arith, c.len.ensures.value) in
-    elim c.if-contains.branch [
-      | then-contains w ↦
+    elim c.if-is_wanted.branch [
+      | then-is_wanted w ↦
           midway_picks ds S P p i now _ _ d.few (within_all_pass 1 ds d.short) here more
-          (ap (on (cells_around ds) S) (sym c.get-x.ensures) ∙ (sym (on_any ds S _) ∙ (sym c.contains.ensures.value ∙ w.if-contains.true)))
+          (ap (on (cells_around ds) S) (sym c.get-x.ensures) ∙ (sym (c.is_wanted.ensures ds) ∙ w.if-is_wanted.true))
           (ap place_cells w.places-is ∙ w.spread.ensures ∙ ap (spread (cells_around ds) P) c.get-x.ensures)
-          (w.picks-is ∙ w.push.ensures.after ∙ pushed_behind 16 i p (omega (arith, more, c.requires)))
-      | else-contains w ↦
-          midway_same ds S P _ p _ _ (ap place_cells w.places-is) w.picks-is
-          (midway_passes ds S P p i now here (ap (on (cells_around ds) S) (sym c.get-x.ensures) ∙ (sym (on_any ds S _) ∙ (sym c.contains.ensures.value ∙ w.if-contains.false))))
+          (ap items_of w.picks-is ∙ w.push.ensures.after ∙ pushed_behind 16 i p (omega (arith, more, c.requires)))
+      | else-is_wanted w ↦
+          midway_same ds S P _ p _ _ (ap place_cells w.places-is) (ap items_of w.picks-is)
+          (midway_passes ds S P p i now here (ap (on (cells_around ds) S) (sym c.get-x.ensures) ∙ (sym (c.is_wanted.ensures ds) ∙ w.if-is_wanted.false)))
     ]
 
-pub returns : goal.returns
-returns c =
-    let ds = directions_in c.args.directions.now in
-    let S = c.args.wanted.now in
-    let P = place_cells c.loop-places.places in
-    midway_ends ds S P c.loop-places.picks c.loop-places.place c.loop-places.invariant
-    (elim c.loop-places-test.branch [
-      | then-loop-places-test+else-place-len w ↦ inr (omega (arith, w.if-place-len.false, w.len-in-loop-places.ensures))
-      | else-loop-places-test w ↦ inl (omega (arith, w.loop-places-test.false, c.len.ensures.value))
-    ])
+pub returns-else-place-len : goal.returns-else-place-len
+returns-else-place-len c =
+    midway_ends (directions_in c.args.directions.now) c.args.wanted.now (place_cells c.loop-places.places) (items_of c.loop-places.picks) c.loop-places.place c.loop-places.invariant
+    (inr (omega (arith, c.if-place-len.false, c.len-in-loop-places.ensures)))
+
+pub returns-after-loop-places : goal.returns-after-loop-places
+returns-after-loop-places c =
+    midway_ends (directions_in c.args.directions.now) c.args.wanted.now (place_cells c.loop-places.places) (items_of c.loop-places.picks) c.loop-places.place c.loop-places.invariant
+    (inl (omega (arith, c.loop-places-test.false, c.len.ensures.value)))

@@ -1,6 +1,7 @@
 use Rattle.std.proofs.Common.{◌≡◌, ◌<◌, ◌≤◌, ℕ, List, length, get_or, ltb, sym, ap, ◌∙◌, subst, arith}
 use Rattle.std.proofs.lemmas.Bool.{lt-ltb, cond-true}
 use Rattle.std.specs.List.Sorted.{IsStrictlyIncreasing}
+use Rattle.ordered.specs.Items.{items_of}
 use Rattle.ordered.specs.Lookups.{inserted, insertion_at, after_insertion}
 use Rattle.ordered.proofs.Ascending.{absent_out}
 use Rattle.ordered.proofs.Orders.{number_order}
@@ -22,7 +23,7 @@ invariant_of-self c =
     let m = c.args.motion in
     let xs : List ℕ = set_motions s in
     let l : m < 48 = omega arith in
-    let e : inserted ltb m xs ≡ c.insert.new.self = sym (c.insert.ensures.after ∙ ap (λ r. after_insertion r (inserted ltb m xs) xs) c.insert.ensures.value ∙ room m s l) in
+    let e : inserted ltb m xs ≡ items_of c.insert.new.self = sym (c.insert.ensures.after ∙ ap (λ r. after_insertion r (inserted ltb m xs) xs) c.insert.ensures.value ∙ room m s l) in
     let first = added_zero m xs s.some s.zero in
     record {
       some = subst (λ ys. 1 ≤ length ys) e first.0;
