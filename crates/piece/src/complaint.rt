@@ -1,9 +1,8 @@
 // Why a line is refused, in words.
 ghost use Rattle.std.specs.Prelude.{◌≡◌};
-ghost use Rattle.piece.specs.declared.complaint.Complaint.TheVariants.{Shape as no_shape, Memory as no_memory};
+ghost use Rattle.piece.specs.declared.complaint.Complaint.TheVariants.{Shape as no_shape};
 
 use shapes::shape_fault::ShapeFault;
-use std::alloc::AllocFailed;
 use std::fmt;
 
 #[derive(Clone, Copy)]
@@ -12,7 +11,6 @@ pub enum Complaint {
     Name,
     Kind,
     Shape(ShapeFault),
-    Memory,
 }
 
 impl From<ShapeFault> for Complaint {
@@ -20,14 +18,6 @@ impl From<ShapeFault> for Complaint {
 
     fn from(fault: ShapeFault) -> Complaint {
         Complaint::Shape(fault)
-    }
-}
-
-impl<T: Drop> From<AllocFailed<T>> for Complaint {
-    ghost from_gives = { λ _ r. r ≡ no_memory };
-
-    fn from(_refused: AllocFailed<T>) -> Complaint {
-        Self::Memory
     }
 }
 
@@ -71,7 +61,6 @@ impl fmt::Display for Complaint {
                     "refused (5): cell {place} is not greater than the one before (cells count from 0)"
                 )
             }
-            Complaint::Memory => write!(f, "there is no memory for the cells"),
         }
     }
 }

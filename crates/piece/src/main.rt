@@ -24,7 +24,7 @@ fn main(rt: HostRuntime) -> anyhow::Result<()> {
     let mut line = Vec::new(rt.alloc());
     let mut input = BufReader::new(rt.alloc(), rt.stdin().take(LONGEST_LINE))?;
     input.read_until(b'\n', &mut line)?;
-    match read_request(rt.alloc(), line.as_slice()) {
+    match read_request(line.as_slice()) {
         Ok(request) => answer(&rt, &request),
         Err(complaint) => {
             eprintln!(rt; "{complaint}")?;

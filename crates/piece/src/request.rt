@@ -2,9 +2,9 @@
 use crate::complaint::{Complaint, Field};
 use lattice::kind::Kind;
 use lattices::known::Known;
+use ordered::array_list::ArrayList;
 use shapes::coordinates::Coordinates;
 use shapes::shape::Shape;
-use std::alloc::Global;
 
 #[derive(Clone, Copy)]
 pub struct Request {
@@ -13,13 +13,13 @@ pub struct Request {
     pub shape: Shape,
 }
 
-pub(super) fn read_request(heap: Global, line: &[u8]) -> Result<Request, Complaint> {
+pub(super) fn read_request(line: &[u8]) -> Result<Request, Complaint> {
     let text = std::str::from_utf8(line).map_err(|_| Complaint::Form(Field::Line))?;
     let text = text.strip_suffix('\n').ok_or(Complaint::Form(Field::Line))?;
     let mut fields = text.split('\t');
     let name = full(fields.next(), Field::Name)?;
     let kind = full(fields.next(), Field::Kind)?;
-    let cells = read_cells(heap, full(fields.next(), Field::Cells)?)?;
+    let cells = read_cells(full(fields.next(), Field::Cells)?)?;
     if fields.next().is_some() {
         return Err(Complaint::Form(Field::Surplus));
     }
@@ -36,11 +36,13 @@ fn full(field: Option<&str>, which: Field) -> Result<&str, Complaint> {
         .ok_or(Complaint::Form(which))
 }
 
-fn read_cells(heap: Global, field: &str) -> Result<Vec<Coordinates>, Complaint> {
-    let mut cells = Vec::new(heap);
+// The first 17 cells, one more than a shape has: from the count of these it is told that there are too many.
+fn read_cells(field: &str) -> Result<ArrayList<Coordinates, 17>, Complaint> {
+    let mut cells = ArrayList::new();
     for (place, text) in field.split(' ').enumerate() {
         let x = read_cell(text).ok_or(Complaint::Form(Field::Cell(place)))?;
-        cells.push(x)?;
+        // The list has no room for a cell behind the first 17, which changes nothing.
+        let _ = cells.push(x);
     }
     Ok(cells)
 }

@@ -8,38 +8,30 @@ use lattices::known::Known;
 use lattices::square::Square;
 use shapes::classed::entry_of;
 use shapes::shape_fault::ShapeFault;
-use std::alloc::Global;
 use std::test::Fail;
 use walk::search::Search;
 use walk::walking::pick_list;
 
 // The number of motions that leave the piece's least member as it is and its orbit size, under the free kind.
-fn symmetry<L: Lattice>(heap: Global, lattice: &L, line: &[u8]) -> Option<(usize, u8)> {
-    let request = read_request(heap, line).ok()?;
+fn symmetry<L: Lattice>(lattice: &L, line: &[u8]) -> Option<(usize, u8)> {
+    let request = read_request(line).ok()?;
     let set = motions_of_kind(lattice, 2).ok()?;
     entry_of(lattice, &set, &request.shape).map(|entry| (entry.stabiliser.len(), entry.orbit_size))
 }
 
 #[test]
 fn dominoes(rt: HostRuntime) {
+    assert_eq!(rt; symmetry(&Hex, b"hex\tfree\t0,0,0 1,0,0\n"), Some((4, 3)));
     assert_eq!(rt;
-        symmetry(rt.alloc(), &Hex, b"hex\tfree\t0,0,0 1,0,0\n"),
-        Some((4, 3))
-    );
-    assert_eq!(rt;
-        symmetry(rt.alloc(), &Cubic, b"cubic\tfree\t0,0,0 1,0,0\n"),
+        symmetry(&Cubic, b"cubic\tfree\t0,0,0 1,0,0\n"),
         Some((16, 3))
     );
     assert_eq!(rt;
-        symmetry(rt.alloc(), &Square, b"square\tfree\t0,0,0 1,0,0 1,1,0\n"),
+        symmetry(&Square, b"square\tfree\t0,0,0 1,0,0 1,1,0\n"),
         Some((2, 4))
     );
     assert_eq!(rt;
-        symmetry(
-            rt.alloc(),
-            &Square,
-            b"square\tfree\t0,0,0 -15,1,0 -15,2,0 15,3,0\n"
-        ),
+        symmetry(&Square, b"square\tfree\t0,0,0 -15,1,0 -15,2,0 15,3,0\n"),
         None
     );
 }
@@ -54,9 +46,9 @@ fn fixed<L: Lattice>(lattice: &L, size: usize) -> usize {
 
 #[test]
 fn pick_lists(rt: HostRuntime) -> Result<(), Fail> {
-    let request = read_request(rt.alloc(), b"square\tfree\t0,0,0 1,0,0 1,1,0\n").map_err(
-        |_| Fail::new("a piece"),
-    )?;
+    let request = read_request(b"square\tfree\t0,0,0 1,0,0 1,1,0\n").map_err(|_| Fail::new(
+        "a piece",
+    ))?;
     let list = pick_list(&Square, &request.shape).ok_or_else(|| Fail::new("connected"))?;
     assert!(rt; list.picks() == [0, 1, 4].as_slice());
     assert_eq!(rt; fixed(&Square, 5), 63);
@@ -71,59 +63,49 @@ fn pick_lists(rt: HostRuntime) -> Result<(), Fail> {
 #[test]
 fn refused_lines(rt: HostRuntime) {
     assert!(rt;
-        matches!(read_request(rt.alloc(), b"hex\tfree\t0,0,0\n"), Ok(request) if matches!(request.lattice, Known::Hex))
+        matches!(read_request(b"hex\tfree\t0,0,0\n"), Ok(request) if matches!(request.lattice, Known::Hex))
     );
+    assert!(rt; matches!(read_request(b"tri\tfree\t0,0,0\n"), Err(Complaint::Name)));
+    assert!(rt; matches!(read_request(b"hex\tloose\t0,0,0\n"), Err(Complaint::Kind)));
     assert!(rt;
         matches!(
-            read_request(rt.alloc(), b"tri\tfree\t0,0,0\n"),
-            Err(Complaint::Name)
-        )
-    );
-    assert!(rt;
-        matches!(
-            read_request(rt.alloc(), b"hex\tloose\t0,0,0\n"),
-            Err(Complaint::Kind)
-        )
-    );
-    assert!(rt;
-        matches!(
-            read_request(rt.alloc(), b"hex\tfree\t0,0,0 16,0,0\n"),
+            read_request(b"hex\tfree\t0,0,0 16,0,0\n"),
             Err(Complaint::Shape(ShapeFault::Reach(1)))
         )
     );
     assert!(rt;
         matches!(
-            read_request(rt.alloc(), b"hex\tfree\t0,0,0 999,0,0\n"),
+            read_request(b"hex\tfree\t0,0,0 999,0,0\n"),
             Err(Complaint::Shape(ShapeFault::Reach(1)))
         )
     );
     assert!(rt;
         matches!(
-            read_request(rt.alloc(), b"hex\tfree\t0,0,0 0,0,0\n"),
+            read_request(b"hex\tfree\t0,0,0 0,0,0\n"),
             Err(Complaint::Shape(ShapeFault::Order(1)))
         )
     );
     assert!(rt;
         matches!(
-            read_request(rt.alloc(), b"hex\tfree\t0,0,0 -0,1,0\n"),
+            read_request(b"hex\tfree\t0,0,0 -0,1,0\n"),
             Err(Complaint::Form(Field::Cell(1)))
         )
     );
     assert!(rt;
         matches!(
-            read_request(rt.alloc(), b"hex\tfree\t00,0,0\n"),
+            read_request(b"hex\tfree\t00,0,0\n"),
             Err(Complaint::Form(Field::Cell(0)))
         )
     );
     assert!(rt;
         matches!(
-            read_request(rt.alloc(), b"hex\tfree\t0,0,0\t\n"),
+            read_request(b"hex\tfree\t0,0,0\t\n"),
             Err(Complaint::Form(Field::Surplus))
         )
     );
     assert!(rt;
         matches!(
-            read_request(rt.alloc(), b"hex\tfree\t0,0,0"),
+            read_request(b"hex\tfree\t0,0,0"),
             Err(Complaint::Form(Field::Line))
         )
     );
