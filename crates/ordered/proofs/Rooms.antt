@@ -1,8 +1,9 @@
 -- What lies behind the items of a list with a fixed room, after one item more.
 use Rattle.std.proofs.Common.{◌≡◌, ℕ, ◌+◌, ◌-◌, List, [], ◌∷◌, ◌++◌, drop, set, replicate, sym, ap, ◌∙◌, arith, ◌<◌, ◌≤◌, length, Ok, Err, Result, is_ok, nat_lt, nat_le, rules}
+use lib.ListN.{length-append, length-drop, length-replicate}
 use Rattle.std.specs.Result.{IsOk}
 use Rattle.std.proofs.lemmas.Bool.{le-leb, lt-ltb, false≢true, cond-true}
-use Rattle.std.proofs.lemmas.List.{drop-drop, drop-replicate, drop-set-lt}
+use Rattle.std.proofs.lemmas.List.{drop-drop, drop-replicate, drop-set-lt, drop-append-le, drop_all}
 use Rattle.ordered.specs.Rooms.{listed, pushed}
 
 -- one place further on, one blank fewer lies behind
@@ -28,3 +29,13 @@ pushed_behind n x xs room = cond-true (nat_lt (length xs) n) _ _ (lt-ltb (length
 -- items that have room are listed
 pub has_list : {X : Type 0} (n : ℕ) (xs : List X) → length xs ≤ n → listed n xs ≡ Ok xs
 has_list n xs few = cond-true (nat_le (length xs) n) _ _ (le-leb (length xs) n few)
+
+-- items in place of the first blanks leave the room full, and blanks behind them
+pub copied_room : {X : Type 0} (n m : ℕ) (b : X) (xs : List X) → length xs ≡ n → n ≤ m → length (xs ++ drop n (replicate m b)) ≡ m
+copied_room n m b xs e l = length-append xs (drop n (replicate m b)) ∙ omega (arith, e, l, length-drop n (replicate m b), length-replicate m b)
+
+pub copied_rest : {X : Type 0} (n m : ℕ) (b : X) (xs : List X) → length xs ≡ n → drop n (xs ++ drop n (replicate m b)) ≡ replicate (m - n) b
+copied_rest n m b xs e =
+    drop-append-le n xs (drop n (replicate m b)) (omega (arith, e))
+    ∙ ap (λ zs. zs ++ drop n (replicate m b)) (drop_all n xs (omega (arith, e)))
+    ∙ drop-replicate n m b

@@ -32,11 +32,15 @@ impl<T: Filler, const N: usize> ArrayList<T, N> {
     pub fn from_slice(items: &[T]) -> Result<ArrayList<T, N>, Full>
         ensures { result_map_both items_of (λ e. e) result ≡ listed N items.now }
     {
-        let mut list = ArrayList::new();
-        for item in items {
-            list.push(*item)?;
+        if items.len() > N {
+            return Err(Full);
         }
-        Ok(list)
+        let mut slots = [T::default(); N];
+        slots[..items.len()].copy_from_slice(items);
+        Ok(ArrayList {
+            slots,
+            count: items.len(),
+        })
     }
 
     // Its items say what all its slots hold: lists of the same items are the same value.

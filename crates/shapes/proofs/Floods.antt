@@ -1,5 +1,5 @@
 -- A flood holds exactly what is reached.
-use Rattle.std.proofs.Common.{◌≡◌, ℕ, zero, suc, ◌<◌, ◌≤◌, Bool, true, ◌||◌, ◌⊎◌, ◌↔◌, List, [], ◌∷◌, length, Decides, filter, sym, refl, ap, ◌∙◌, subst, inl, inr, ⊎_elim, arith}
+use Rattle.std.proofs.Common.{◌≡◌, ℕ, zero, suc, ◌<◌, ◌≤◌, Bool, true, false, cond, int_eq, ◌&&◌, ◌||◌, ◌⊎◌, ◌↔◌, List, [], ◌∷◌, length, Decides, filter, sym, refl, ap, ◌∙◌, subst, inl, inr, ⊎_elim, arith, rules}
 use Rattle.std.specs.Ordering.{is_eq}
 use Rattle.std.proofs.lemmas.Bool.{cases_eq, or_cases, or_left, or_right, false≢true, eqb-true, eq-eqb}
 use Rattle.ordered.specs.Members.{In}
@@ -7,13 +7,13 @@ use Rattle.ordered.specs.Orders.{rank}
 use Rattle.ordered.proofs.Members.{in_cast, in_kept, from_kept}
 use Rattle.ordered.proofs.Counting.{Equality}
 use Rattle.ordered.proofs.Kept.{length_kept_le, kept_all, length_kept_all, kept_wider}
-use Rattle.ordered.proofs.Orders.{is_equal, same_rank, equal_rank}
+use Rattle.ordered.proofs.Orders.{is_equal, same_rank, less_rank, equal_rank}
 use Rattle.lattice.specs.declared.cell.Cell.{Cell}
 use Rattle.lattice.specs.Cells.{origin, cell_less}
 use Rattle.lattice.specs.Coordinates.{cell_order}
 use Rattle.shapes.specs.Connected.{Reached, at_start, onward, Connected}
 use Rattle.shapes.specs.Floods.{some_pass, touches, spread, flooded, flood, same_cell, connected}
-use Rattle.shapes.specs.Positions.{neighbours}
+use Rattle.shapes.specs.Positions.{neighbours, NormalPosition}
 
 -- ---- tests on lists
 pub some_pass_says : {X : Type 0} (p : X → Bool) (xs : List X) → some_pass p xs ≡ true → (x : X) × In x xs × (p x ≡ true)
@@ -28,6 +28,18 @@ pub some_pass_from : {X : Type 0} (p : X → Bool) (xs : List X) (x : X) → In 
 some_pass_from p [] x h e = absurd h
 some_pass_from p (y ∷ ys) x (inl q) e = or_left (p y) (some_pass p ys) (sym (ap p q) ∙ e)
 some_pass_from p (y ∷ ys) x (inr h) e = or_right (p y) (some_pass p ys) (some_pass_from p ys x h e)
+
+kept_none : {X : Type 0} (p : X → Bool) (xs : List X) → ((x : X) → In x xs → p x ≡ false) → filter p xs ≡ []
+kept_none p [] h = refl
+kept_none p (x ∷ xs) h = rw (h x (inl refl)) (kept_none p xs (λ y q. h y (inr q)))
+
+-- the origin is once in cells in normal position
+pub origin_kept : (s : List Cell) → NormalPosition s → origin ∷ [] ≡ filter (same_cell origin) s
+origin_kept [] p = absurd p.from_origin
+origin_kept (x ∷ xs) p =
+    let rest = kept_none (same_cell origin) xs (λ y h. ap is_eq (less_rank cell_less origin y (rw p.from_origin at (p.ascending.0 y h)))) in
+    let here : same_cell origin x ≡ true = ap is_eq (equal_rank cell_less cell_order origin x (sym p.from_origin)) in
+    ap (λ z. z ∷ []) (sym p.from_origin) ∙ sym (ap (λ b. cond b (x ∷ filter (same_cell origin) xs) (filter (same_cell origin) xs)) here ∙ ap (λ l. x ∷ l) rest)
 
 module _ {X : Type 0} (same : X → X → Bool) (eq : Equality same) (near : X → List X) (start : X) (s : List X) where
   -- ---- one round
@@ -52,7 +64,7 @@ module _ {X : Type 0} (same : X → X → Bool) (eq : Equality same) (near : X �
   rounds_kept zero = (same start, refl)
   rounds_kept (suc k) = (touches same near (rounds k), refl)
 
-  rounds_in : (k : ℕ) (x : X) → In x (rounds k) → In x s
+  pub rounds_in : (k : ℕ) (x : X) → In x (rounds k) → In x s
   rounds_in k x h = let t = rounds_kept k in (from_kept t.0 s x (subst (In x) t.1 h)).0
 
   rounds_start : (k : ℕ) → In start s → In start (rounds k)
@@ -68,12 +80,16 @@ module _ {X : Type 0} (same : X → X → Bool) (eq : Equality same) (near : X �
   still_later k zero e l = let q : 0 ≡ k = omega arith in ap rounds q
   still_later k (suc n) e l = ⊎_elim (λ q. ap rounds (sym q)) (λ q. ap (spread same near s) (still_later k n e (omega arith)) ∙ e) (cases_eq k (suc n))
 
-  still_or_more : (k : ℕ) → Still (rounds k) ⊎ (length (rounds k) < length (rounds (suc k)))
+  pub still_or_more : (k : ℕ) → Still (rounds k) ⊎ (length (rounds k) < length (rounds (suc k)))
   still_or_more k = let t = rounds_kept k in go t.0 t.1 (kept_wider t.0 (touches same near (rounds k)) s (λ x h e. touches_itself (rounds k) x (subst (In x) (sym t.1) (in_kept t.0 s x h e))))
     where
       go : (p : X → Bool) → rounds k ≡ filter p s → (rounds (suc k) ≡ filter p s) ⊎ (length (filter p s) < length (rounds (suc k))) → Still (rounds k) ⊎ (length (rounds k) < length (rounds (suc k)))
       go p f (inl e) = inl (e ∙ sym f)
       go p f (inr l) = inr (omega (arith, ap length f))
+
+  -- with all cells there, no round adds any
+  pub full_still : (k : ℕ) → length (rounds k) ≡ length s → Still (rounds k)
+  full_still k e = ⊎_elim (λ q. q) (λ l. absurd (omega (arith, l, e, length_kept_le (touches same near (rounds k)) s))) (still_or_more k)
 
   still_or_long : (k : ℕ) → Still (rounds k) ⊎ (k ≤ length (rounds k))
   still_or_long zero = inr (omega arith)
@@ -122,6 +138,13 @@ module _ {X : Type 0} (same : X → X → Bool) (eq : Equality same) (near : X �
   flood_by_connected con = let t = rounds_kept (length s) in ap length t.1 ∙ length_kept_all t.0 s (λ x h. (from_kept t.0 s x (subst (In x) t.1 (reached_flood (con x h)))).1)
 
 -- ---- cells
+-- the comparison of cells by `==`
+abbrev pub same_numbers : Cell → Cell → Bool
+same_numbers y x = int_eq y.a x.a && (int_eq y.b x.b && int_eq y.c x.c)
+
+pub same_is : (y x : Cell) → same_numbers y x ≡ same_cell x y
+same_is y x = search rules
+
 pub same_cell_equality : Equality same_cell
 same_cell_equality x y = (λ e. same_rank cell_less cell_order x y (is_equal (rank cell_less x y) e), λ e. ap is_eq (equal_rank cell_less cell_order x y e))
 

@@ -14,7 +14,6 @@ pub mod Classes
 pub mod Sorting
 pub mod ShapeFacts
 pub mod Representatives
-pub mod Marks
 pub mod Members
 pub mod Firsts
 pub mod Orientations

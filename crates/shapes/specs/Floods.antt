@@ -4,10 +4,9 @@
 --     spread same near s r             the cells of s that are in r or next to a cell of r
 --     flooded same near start s k      k rounds: the start, if it is in s, spread k times
 --     flood same near start s          as many rounds as s has cells, which reach all that is reached
---     marked s bs                      the cells of s whose mark in bs, by place, is true
 --     same_cell x y                    the test that x and y are the same cell
 --     connected ds s                   the flood of s from the origin, with the directions ds, leaves nothing out
-use Rattle.std.specs.Prelude.{ℕ, zero, suc, Bool, false, cond, ◌||◌, List, [], ◌∷◌, length, filter, ◌==◌}
+use Rattle.std.specs.Prelude.{ℕ, zero, suc, Bool, false, ◌||◌, List, [], ◌∷◌, length, filter, ◌==◌}
 use Rattle.std.specs.Ordering.{is_eq}
 use Rattle.ordered.specs.Orders.{rank}
 use Rattle.lattice.specs.declared.cell.Cell.{Cell}
@@ -30,11 +29,6 @@ flooded same near start s (suc k) = spread same near s (flooded same near start 
 
 abbrev pub flood : {X : Type 0} → (X → X → Bool) → (X → List X) → X → List X → List X
 flood same near start s = flooded same near start s (length s)
-
-abbrev pub marked : {X : Type 0} → List X → List Bool → List X
-marked [] bs = []
-marked (x ∷ xs) [] = []
-marked (x ∷ xs) (b ∷ bs) = cond b (x ∷ marked xs bs) (marked xs bs)
 
 abbrev pub same_cell : Cell → Cell → Bool
 same_cell x y = is_eq (rank cell_less x y)

@@ -1,3 +1,4 @@
+pub mod Blanks
 pub mod Connected
 pub mod Positions
 pub mod Actions

@@ -7,7 +7,7 @@
 --     orientations ms gs s    each of these numbers with its member
 --     orbit_list o            the orientations in the orbit o
 --     oriented o              the orientation o as a motion's number and a list of cells
-use Rattle.std.specs.Prelude.{ℕ, Bool, not, List, [], ◌∷◌, map, length, take, filter, nat_lt}
+use Rattle.std.specs.Prelude.{ℕ, Bool, not, List, [], ◌∷◌, map, length, filter, nat_lt}
 use Rattle.ordered.specs.Items.{items_of}
 use Rattle.lattice.specs.declared.cell.Cell.{Cell}
 use Rattle.lattice.specs.Matrices.{Matrix}
@@ -38,7 +38,7 @@ abbrev pub orientations : List Matrix → List ℕ → List Cell → List (ℕ �
 orientations ms gs s = map (λ g. (g, moved ms g s)) (first_motions ms gs s)
 
 abbrev pub orbit_list : Orbit → List Orientation
-orbit_list o = take o.count o.orientations
+orbit_list o = items_of o.orientations
 
 abbrev pub oriented : Orientation → ℕ × List Cell
 oriented o = (o.motion, placement_cells o.placement)

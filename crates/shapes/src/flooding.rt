@@ -1,98 +1,88 @@
 // Whether a shape is connected: its cells are flooded from the origin, and counted.
-ghost use Rattle.std.specs.Prelude.{◌≡◌, ◌||◌, length, Decides, ◌==◌};
-ghost use Rattle.lattice.specs.Cells.{origin, plus, Within};
+ghost use Rattle.std.specs.Prelude.{◌≡◌, ◌||◌, Decides};
+ghost use Rattle.std.specs.List.{AllByRecursion};
+ghost use Rattle.lattice.specs.Cells.{origin, Within};
 ghost use Rattle.shapes.specs.Connected.{Connected};
-ghost use Rattle.shapes.specs.Floods.{some_pass, touches as touching, spread as spreading, flood as flooding, marked, same_cell, connected};
+ghost use Rattle.shapes.specs.Floods.{some_pass, touches as touching, spread as spreading, flood as flooding, same_cell, connected};
+ghost use Rattle.shapes.specs.Members.{placement_cells};
 ghost use Rattle.shapes.specs.Positions.{neighbours};
 ghost use Rattle.shapes.specs.Shapes.{shape_cells};
 
+use crate::images::difference;
+use crate::placement::Placement;
 use crate::shape::Shape;
 use lattice::cell::Cell;
 use lattice::lattice::Lattice;
-
-// x + step
-fn sum(x: Cell, step: Cell) -> Cell
-    requires near { Within 15 x }
-    requires short { Within 1 step }
-    ensures { result ≡ plus x step }
-{
-    Cell {
-        a: x.a + step.a,
-        b: x.b + step.b,
-        c: x.c + step.c,
-    }
-}
-
-fn is_same(x: Cell, y: Cell) -> bool
-    ensures { result ≡ same_cell x y }
-{
-    x == y
-}
+use ordered::array_list::ArrayList;
 
 // y is x, or next to it.
 fn is_at<L: Lattice>(lattice: &L, x: Cell, y: Cell) -> bool
-    requires { Within 15 x }
+    requires x_near { Within 15 x }
+    requires y_near { Within 15 y }
     ensures { result ≡ (same_cell x y || some_pass (same_cell y) (neighbours (L.directions lattice.now) x)) }
 {
-    if is_same(x, y) {
+    if y == x {
         return true;
     }
+    let step = difference(y, x);
     for k in 0..lattice.direction_count() {
-        if is_same(y, sum(x, lattice.direction(k))) {
+        if lattice.direction(k) == step {
             return true;
         }
     }
     false
 }
 
-// y is a marked cell of the shape, or next to one.
-fn touches<L: Lattice>(lattice: &L, shape: &Shape, marks: &[bool; 16], y: Cell) -> bool
-    ensures { result ≡ touching same_cell (neighbours (L.directions lattice.now)) (marked (shape_cells shape.now) marks.now) y }
+// y is one of the cells reached, or next to one.
+fn touches<L: Lattice>(lattice: &L, reached: &Placement, y: Cell) -> bool
+    requires near { AllByRecursion (Within 15) (placement_cells reached.now) }
+    requires y_near { Within 15 y }
+    ensures { result ≡ touching same_cell (neighbours (L.directions lattice.now)) (placement_cells reached.now) y }
 {
-    for (i, x) in shape.cells().iter().enumerate() {
-        if marks[i] && is_at(lattice, *x, y) {
+    for x in reached.cells() {
+        if is_at(lattice, *x, y) {
             return true;
         }
     }
     false
 }
 
-// Marks what is marked or next to a marked cell.
-fn spread<L: Lattice>(lattice: &L, shape: &Shape, marks: &[bool; 16]) -> [bool; 16]
-    ensures { marked (shape_cells shape.now) result ≡ spreading same_cell (neighbours (L.directions lattice.now)) (shape_cells shape.now) (marked (shape_cells shape.now) marks.now) }
+// The cells of the shape that are reached, or next to one that is. What is reached is known at sight, since both lists ascend.
+fn spread<L: Lattice>(lattice: &L, shape: &Shape, reached: &Placement) -> Placement
+    requires near { AllByRecursion (Within 15) (placement_cells reached.now) }
+    ensures { placement_cells result ≡ spreading same_cell (neighbours (L.directions lattice.now)) (shape_cells shape.now) (placement_cells reached.now) }
 {
-    let mut next = [false; 16];
-    for (i, y) in shape.cells().iter().enumerate() {
-        next[i] = marks[i] || touches(lattice, shape, marks, *y);
+    let known = reached.cells();
+    let mut passed = 0;
+    let mut cells = ArrayList::new();
+    for y in shape.cells() {
+        let is_known = known.get(passed) == Some(y);
+        if is_known {
+            passed += 1;
+        }
+        if is_known || touches(lattice, reached, *y) {
+            cells.push(*y).unwrap();
+        }
     }
-    next
+    Placement { cells }
 }
 
-// Marks all that is reached from the origin, the first cell, in rounds until one adds nothing.
-fn flood<L: Lattice>(lattice: &L, shape: &Shape) -> [bool; 16]
-    ensures { marked (shape_cells shape.now) result ≡ flooding same_cell (neighbours (L.directions lattice.now)) origin (shape_cells shape.now) }
+// The cells that are reached from the origin, the first cell, in rounds until one adds nothing or nothing is left to add.
+fn flood<L: Lattice>(lattice: &L, shape: &Shape) -> Placement
+    ensures { placement_cells result ≡ flooding same_cell (neighbours (L.directions lattice.now)) origin (shape_cells shape.now) }
 {
-    let mut marks = [false; 16];
-    marks[0] = true;
+    let mut cells = ArrayList::new();
+    cells.push(Cell::ORIGIN).unwrap();
+    let mut reached = Placement { cells };
     for _k in 0..shape.size() {
-        let next = spread(lattice, shape, &marks);
-        if next == marks {
-            return marks;
+        let next = spread(lattice, shape, &reached);
+        let count = next.cells().len();
+        if count == reached.cells().len() || count == shape.size() {
+            return next;
         }
-        marks = next;
+        reached = next;
     }
-    marks
-}
-
-fn are_all_marked(shape: &Shape, marks: &[bool; 16]) -> bool
-    ensures { result ≡ (length (marked (shape_cells shape.now) marks.now) == length (shape_cells shape.now)) }
-{
-    for i in 0..shape.size() {
-        if !marks[i] {
-            return false;
-        }
-    }
-    true
+    reached
 }
 
 // Every cell is reached from the origin by steps in the lattice's directions, all the way within the shape.
@@ -100,5 +90,6 @@ pub fn is_connected<L: Lattice>(lattice: &L, shape: &Shape) -> bool
     ensures value { result ≡ connected (L.directions lattice.now) (shape_cells shape.now) }
     ensures exact { Decides result (Connected (neighbours (L.directions lattice.now)) origin (shape_cells shape.now)) }
 {
-    are_all_marked(shape, &flood(lattice, shape))
+    let reached = flood(lattice, shape);
+    reached.cells().len() == shape.size()
 }

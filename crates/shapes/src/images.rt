@@ -63,7 +63,7 @@ fn images<L: Lattice>(lattice: &L, motion: u8, shape: &Shape) -> Placement
 }
 
 // x − y
-fn difference(x: Cell, y: Cell) -> Cell
+pub(crate) fn difference(x: Cell, y: Cell) -> Cell
     requires x_near { Within 45 x }
     requires y_near { Within 45 y }
     ensures { result ≡ minus x y }

@@ -1,12 +1,8 @@
 // The different members of a shape, each with the lowest motion that makes it.
-ghost use Rattle.std.specs.Prelude.{◌≡◌, ◌≤◌, length};
-
 use crate::orientation::Orientation;
+use ordered::array_list::ArrayList;
 
 #[derive(Clone, Copy)]
 pub struct Orbit {
-    pub(crate) orientations: [Orientation; 48],
-    pub(crate) count: usize,
-    ghost few: { count ≤ 48 },
-    ghost space: { length orientations ≡ 48 },
+    pub(crate) orientations: ArrayList<Orientation, 48>,
 }

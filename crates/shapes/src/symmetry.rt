@@ -13,6 +13,7 @@ use crate::shape::Shape;
 use lattice::cell::Cell;
 use lattice::lattice::Lattice;
 use lattice::motion_set::MotionSet;
+use ordered::array_list::ArrayList;
 use ordered::compare::compare;
 
 // Whether a motion of the lattice leaves the shape as it is.
@@ -43,22 +44,21 @@ impl Orbit {
         ensures { orbit_list result ≡ [] }
     {
         Orbit {
-            orientations: [Orientation::default(); 48],
-            count: 0,
+            orientations: ArrayList::new(),
         }
     }
 
     pub fn as_slice(&self) -> &[Orientation]
         ensures { result.now ≡ orbit_list self.now }
     {
-        &self.orientations[0..self.count]
+        self.orientations.as_slice()
     }
 
     pub fn len(&self) -> usize
         ensures value { result ≡ length (orbit_list self.now) }
         ensures few { result ≤ 48 }
     {
-        self.as_slice().len()
+        self.orientations.len()
     }
 
     // Whether one of the orientations has these cells.
@@ -79,8 +79,7 @@ impl Orbit {
         ensures { orbit_list self.new ≡ (if some_pass (λ o. same_cells (placement_cells o.placement) (placement_cells orientation.placement)) (orbit_list self.old) then orbit_list self.old else orbit_list self.old ++ orientation ∷ []) }
     {
         if !self.has(orientation.placement.cells()) {
-            self.orientations[self.count] = orientation;
-            self.count += 1;
+            self.orientations.push(orientation).unwrap();
         }
     }
 }

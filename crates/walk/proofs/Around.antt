@@ -1,5 +1,5 @@
 -- The cells of a lattice as a walk sees them: what is on a list of cells, and how far the cells of a place list are.
-use Rattle.std.proofs.Common.{◌≡◌, ℕ, ◌+◌, ◌<◌, Bool, true, false, int_eq, Some, None, Option, cond, not, ◌&&◌, ◌||◌, List, [], ◌∷◌, ◌++◌, length, get_or, drop, sym, refl, ap, ◌∙◌, subst, ap₂, inl, inr, ⊎_elim, arith, rules}
+use Rattle.std.proofs.Common.{◌≡◌, ℕ, ◌+◌, ◌<◌, true, false, Some, None, Option, cond, not, ◌&&◌, ◌||◌, List, [], ◌∷◌, ◌++◌, length, get_or, drop, sym, refl, ap, ◌∙◌, subst, ap₂, inl, inr, ⊎_elim, arith, rules}
 use lib.ListN.{length-map}
 use Rattle.std.specs.Ordering.{is_lt, then_cmp, int_cmp, on as on_key}
 use Rattle.std.specs.Option.{SomeIff}
@@ -15,18 +15,11 @@ use Rattle.lattice.specs.Cells.{origin, cell_less, Within, within, plus, Fits}
 use Rattle.lattice.specs.Coordinates.{within_says}
 use Rattle.shapes.specs.Positions.{neighbours}
 use Rattle.shapes.proofs.Bounds.{plus_within, within_more, within_test}
+use Rattle.shapes.proofs.Floods.{same_numbers, same_is}
 use Rattle.walk.specs.Neighbourhoods.{on}
 use Rattle.walk.specs.Places.{put, put_all, spread, cell_at, after_pick, places_from, first_places}
-use Rattle.shapes.specs.Floods.{same_cell}
 use Rattle.walk.specs.CellsAround.{cells_around}
 use Rattle.walk.proofs.Places.{in_put_all}
-
--- the comparison of cells by `==`
-abbrev pub same_numbers : Cell → Cell → Bool
-same_numbers y x = int_eq y.a x.a && (int_eq y.b x.b && int_eq y.c x.c)
-
-pub same_is : (y x : Cell) → same_numbers y x ≡ same_cell x y
-same_is y x = search rules
 
 module _ (ds : List Cell) where
   -- ---- what is on a list
@@ -34,11 +27,6 @@ module _ (ds : List Cell) where
   unfolding cells_around
   on_any [] x = refl
   on_any (y ∷ ys) x = ap₂ (λ b d. b || d) (same_is y x) (on_any ys x)
-
-  -- the item at a place decides, or those behind it
-  pub on_more : (xs : List Cell) (x : Cell) (i : ℕ) → i < length xs → on (cells_around ds) (drop i xs) x ≡ (same_cell x (get_or xs i origin) || on (cells_around ds) (drop (i + 1) xs) x)
-  unfolding cells_around
-  on_more xs x i l = at_drop_more (λ ys. on (cells_around ds) ys x) xs i origin l
 
   -- ---- in their words
   pub first_is : first_places (cells_around ds) ≡ origin ∷ []

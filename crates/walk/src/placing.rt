@@ -1,7 +1,7 @@
 // Putting cells on a place list, and cutting it back.
 ghost use Rattle.std.specs.Prelude.{◌≡◌, ◌+◌, ◌<◌, ◌≤◌, List, [], ◌∷◌, ◌++◌, length, take, slice_index_or};
 ghost use Rattle.lattice.specs.declared.cell.Cell.{Cell};
-ghost use Rattle.lattice.specs.Cells.{origin, plus, Within};
+ghost use Rattle.lattice.specs.Cells.{origin, Within};
 ghost use Rattle.walk.specs.CellsAround.{cells_around};
 ghost use Rattle.walk.specs.Neighbourhoods.{on};
 ghost use Rattle.walk.specs.PlaceLists.{place_cells, directions_in};
@@ -10,19 +10,6 @@ ghost use Rattle.walk.specs.Places.{put as put_on, spread as spread_on};
 use crate::direction_list::DirectionList;
 use crate::place_list::PlaceList;
 use lattice::cell::Cell;
-
-// x + step
-fn sum(x: Cell, step: Cell) -> Cell
-    requires near { Within 100 x }
-    requires short { Within 1 step }
-    ensures { result ≡ plus x step }
-{
-    Cell {
-        a: x.a + step.a,
-        b: x.b + step.b,
-        c: x.c + step.c,
-    }
-}
 
 impl PlaceList {
     // The place list of no picks.
@@ -87,7 +74,7 @@ impl PlaceList {
         ensures { place_cells self.new ≡ spread_on (cells_around (directions_in directions.now)) (place_cells self.old) from }
     {
         for step in directions.cells.as_slice() {
-            self.put(sum(from, *step));
+            self.put(from.checked_add(*step).unwrap());
         }
     }
 }

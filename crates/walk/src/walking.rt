@@ -1,12 +1,10 @@
 // The walk of a shape, which gives its pick list.
-ghost use Rattle.std.specs.Prelude.{◌≡◌, ◌≤◌, true, ◌↔◌, List, length, is_some};
-ghost use Rattle.lattice.specs.declared.cell.Cell.{Cell as CellValue};
+ghost use Rattle.std.specs.Prelude.{◌≡◌, ◌≤◌, true, ◌↔◌, length, is_some};
 ghost use Rattle.lattice.specs.Cells.{origin};
 ghost use Rattle.shapes.specs.Connected.{Connected};
 ghost use Rattle.shapes.specs.Positions.{neighbours};
 ghost use Rattle.shapes.specs.Shapes.{shape_cells};
 ghost use Rattle.walk.specs.CellsAround.{cells_around};
-ghost use Rattle.walk.specs.Neighbourhoods.{on};
 ghost use Rattle.walk.specs.PlaceLists.{directions_in, pick_numbers, picked};
 ghost use Rattle.walk.specs.Walks.{walk as walked, pick_list as the_picks};
 
@@ -27,18 +25,6 @@ impl PickList {
     }
 }
 
-// Whether the cell is one of the few that are wanted. A plain loop: the `contains` of slices is made for long ones.
-fn is_wanted(wanted: &[Cell], x: Cell) -> bool
-    ensures { (ds : List CellValue) → result ≡ on (cells_around ds) wanted.now x }
-{
-    for y in wanted {
-        if *y == x {
-            return true;
-        }
-    }
-    false
-}
-
 // Takes the places in turn from 0, and picks those whose cells are wanted, until all are picked or no place is left.
 fn walk(directions: &DirectionList, wanted: &[Cell]) -> PickList
     requires { length wanted.now ≤ 16 }
@@ -50,7 +36,7 @@ fn walk(directions: &DirectionList, wanted: &[Cell]) -> PickList
     // The places are not iterated: a pick puts more on their end.
     while picks.len() < wanted.len() && place < places.len() {
         let x = places.get(place);
-        if is_wanted(wanted, x) {
+        if wanted.contains(&x) {
             picks.push(place).unwrap();
             places.spread(directions, x);
         }

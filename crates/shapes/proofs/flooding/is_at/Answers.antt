@@ -1,28 +1,37 @@
-use Rattle.std.proofs.Common.{◌+◌, ◌<◌, ◌≤◌, ◌||◌, length, get_or, drop, sym, ap, ◌∙◌, subst, arith}
-use Rattle.std.proofs.ByRecursion.{All-get_or}
+use Rattle.std.proofs.Common.{◌≡◌, ◌+◌, ◌<◌, ◌≤◌, false, ◌||◌, length, get_or, drop, sym, ap, ◌∙◌, inl, inr, arith}
+use Rattle.std.proofs.lemmas.Int.{ints}
 use Rattle.std.proofs.lemmas.List.{at_drop_more, at_drop_all}
-use Rattle.std.proofs.lemmas.Bool.{or_left, or_right, or_from}
-use Rattle.lattice.specs.Cells.{origin, plus, Within}
+use Rattle.std.proofs.lemmas.Bool.{or_left, or_right, or_from, cases_Bool, both_ways}
+use Rattle.ordered.proofs.Counting.{differ}
+use Rattle.lattice.specs.declared.cell.Cell.{Cell}
+use Rattle.lattice.specs.Cells.{origin, plus, minus}
+use Rattle.lattice.specs.Coordinates.{cell_same}
 use Rattle.shapes.specs.Floods.{some_pass, same_cell}
 use Rattle.shapes.specs.Positions.{neighbours}
+use Rattle.shapes.proofs.Bounds.{within_more}
+use Rattle.shapes.proofs.Floods.{same_numbers, same_is, same_cell_equality}
 use Rattle.shapes.proofs.flooding.is_at.Goals as goal
 
-pub sum-requires : goal.sum-requires
-sum-requires g c =
-    let ds = g.L.Lattice.directions c.args.lattice.now in
-    let k : c.loop-k.k < length ds = omega (arith, c.direction_count-k-end.ensures) in
-    let short = (g.L.Lattice.rules c.args.lattice.now).directions_short in
-    record { near = c.requires; short = subst (Within 1) (sym c.direction.ensures) (All-get_or (Within 1) ds c.loop-k.k origin k short) }
+-- the step is d exactly where y is the sum
+step_same : (x y d : Cell) → same_cell (minus y x) d ≡ same_cell y (plus x d)
+step_same x y d = elim (cases_Bool (same_cell y (plus x d))) [
+  | inl t ↦ let e = (same_cell_equality y (plus x d)).0 t in (same_cell_equality (minus y x) d).1 (cell_same _ _ (omega (arith, ints, ap (λ z. z.a) e)) (omega (arith, ints, ap (λ z. z.b) e)) (omega (arith, ints, ap (λ z. z.c) e))) ∙ sym t
+  | inr f ↦ differ same_cell same_cell_equality (minus y x) d (λ e. both_ways _ f ((same_cell_equality y (plus x d)).1 (cell_same _ _ (omega (arith, ints, ap (λ z. z.a) e)) (omega (arith, ints, ap (λ z. z.b) e)) (omega (arith, ints, ap (λ z. z.c) e))))) ∙ sym f
+]
 
-pub returns-then-is_same-2 : goal.returns-then-is_same-2
-returns-then-is_same-2 g c =
+-- the comparison by `==` tells it too
+told : (x y d step : Cell) → step ≡ minus y x → same_numbers d step ≡ same_cell y (plus x d)
+told x y d step e = same_is d step ∙ ap (λ s. same_cell s d) e ∙ step_same x y d
+
+pub returns-then-eq-2 : goal.returns-then-eq-2
+returns-then-eq-2 g c =
     let ds = g.L.Lattice.directions c.args.lattice.now in
     let k : c.loop-k.k < length ds = omega (arith, c.direction_count-k-end.ensures) in
     let x = c.args.x in
     let y = c.args.y in
+    let test = sym c.if-eq-2.true ∙ c.eq-in-loop-k.ensures ∙ told x y c.direction.result c.difference-step.result c.difference-step.ensures ∙ ap (λ d. same_cell y (plus x d)) c.direction.ensures in
     let step = at_drop_more (λ l. some_pass (same_cell y) (neighbours l x)) ds c.loop-k.k origin k in
-    let test = c.is_same-in-loop-k.ensures ∙ ap (same_cell y) (c.sum.ensures ∙ ap (plus x) c.direction.ensures) in
-    sym (or_right (same_cell x y) (some_pass (same_cell y) (neighbours ds x)) (sym c.loop-k.invariant ∙ step ∙ or_left (same_cell y (plus x (get_or ds c.loop-k.k origin))) (some_pass (same_cell y) (neighbours (drop (c.loop-k.k + 1) ds) x)) (sym test ∙ c.if-is_same-2.true)))
+    sym (or_right (same_cell x y) (some_pass (same_cell y) (neighbours ds x)) (sym c.loop-k.invariant ∙ step ∙ or_left (same_cell y (plus x (get_or ds c.loop-k.k origin))) (some_pass (same_cell y) (neighbours (drop (c.loop-k.k + 1) ds) x)) (sym test)))
 
 pub loop-k-preserved : goal.loop-k-preserved
 loop-k-preserved g c =
@@ -30,9 +39,9 @@ loop-k-preserved g c =
     let k : c.loop-k.k < length ds = omega (arith, c.direction_count-k-end.ensures) in
     let x = c.args.x in
     let y = c.args.y in
+    let test = sym c.if-eq-2.false ∙ c.eq-in-loop-k.ensures ∙ told x y c.direction.result c.difference-step.result c.difference-step.ensures ∙ ap (λ d. same_cell y (plus x d)) c.direction.ensures in
     let step = at_drop_more (λ l. some_pass (same_cell y) (neighbours l x)) ds c.loop-k.k origin k in
-    let test = c.is_same-in-loop-k.ensures ∙ ap (same_cell y) (c.sum.ensures ∙ ap (plus x) c.direction.ensures) in
-    sym (step ∙ ap (λ b. b || some_pass (same_cell y) (neighbours (drop (c.loop-k.k + 1) ds) x)) (sym test ∙ c.if-is_same-2.false)) ∙ c.loop-k.invariant
+    sym (step ∙ ap (λ b. b || some_pass (same_cell y) (neighbours (drop (c.loop-k.k + 1) ds) x)) (sym test)) ∙ c.loop-k.invariant
 
 pub returns : goal.returns
 returns g c =
@@ -40,4 +49,8 @@ returns g c =
     let k : length ds ≤ c.loop-k.k = omega (arith, c.direction_count-k-end.ensures) in
     let x = c.args.x in
     let y = c.args.y in
-    sym (or_from (same_cell x y) (some_pass (same_cell y) (neighbours ds x)) (sym c.is_same.ensures ∙ c.if-is_same.false) (sym c.loop-k.invariant ∙ at_drop_all (λ l. some_pass (same_cell y) (neighbours l x)) ds c.loop-k.k k))
+    let other : same_cell x y ≡ false = sym (same_is y x) ∙ sym c.eq.ensures ∙ c.if-eq.false in
+    sym (or_from (same_cell x y) (some_pass (same_cell y) (neighbours ds x)) other (sym c.loop-k.invariant ∙ at_drop_all (λ l. some_pass (same_cell y) (neighbours l x)) ds c.loop-k.k k))
+
+pub difference-step-requires : goal.difference-step-requires
+difference-step-requires g c = record { x_near = within_more 15 45 c.args.y (omega arith) c.requires.y_near; y_near = within_more 15 45 c.args.x (omega arith) c.requires.x_near }

@@ -7,10 +7,10 @@ use Rattle.walk.specs.CellsAround.{cells_around}
 use Rattle.walk.specs.Neighbourhoods.{on}
 use Rattle.walk.specs.PlaceLists.{place_cells, directions_in}
 use Rattle.walk.specs.Places.{spread}
-use Rattle.walk.proofs.Around.{place_within, within_all_pass}
+use Rattle.walk.proofs.Around.{on_any, place_within, within_all_pass}
 use Rattle.walk.proofs.WalkTurns.{midway_first, midway_picks, midway_passes, midway_same, midway_ends}
 use Rattle.walk.proofs.walking.walk.Goals as goal
-use Rattle.walk.proofs.walking.walk.Goals.{then-is_wanted, else-is_wanted}
+use Rattle.walk.proofs.walking.walk.Goals.{then-contains, else-contains}
 
 pub loop-places-init : goal.loop-places-init
 loop-places-init c = midway_first (directions_in c.args.directions.now) c.args.wanted.now _ _ c.new-picks.ensures c.new-places.ensures
@@ -37,15 +37,15 @@ loop-places-preserved c =
     let now = c.loop-places.invariant in
     let here : i < length P = omega arith in
     let more : length p < length S = omega (arith, c.len.ensures.value) in
-    elim c.if-is_wanted.branch [
-      | then-is_wanted w ↦
+    elim c.if-contains.branch [
+      | then-contains w ↦
           midway_picks ds S P p i now _ _ d.few (within_all_pass 1 ds d.short) here more
-          (ap (on (cells_around ds) S) (sym c.get-x.ensures) ∙ (sym (c.is_wanted.ensures ds) ∙ w.if-is_wanted.true))
+          (ap (on (cells_around ds) S) (sym c.get-x.ensures) ∙ (sym (on_any ds S _) ∙ (sym c.contains.ensures.value ∙ w.if-contains.true)))
           (ap place_cells w.places-is ∙ w.spread.ensures ∙ ap (spread (cells_around ds) P) c.get-x.ensures)
           (ap items_of w.picks-is ∙ w.push.ensures.after ∙ pushed_behind 16 i p (omega (arith, more, c.requires)))
-      | else-is_wanted w ↦
+      | else-contains w ↦
           midway_same ds S P _ p _ _ (ap place_cells w.places-is) (ap items_of w.picks-is)
-          (midway_passes ds S P p i now here (ap (on (cells_around ds) S) (sym c.get-x.ensures) ∙ (sym (c.is_wanted.ensures ds) ∙ w.if-is_wanted.false)))
+          (midway_passes ds S P p i now here (ap (on (cells_around ds) S) (sym c.get-x.ensures) ∙ (sym (on_any ds S _) ∙ (sym c.contains.ensures.value ∙ w.if-contains.false))))
     ]
 
 pub returns-else-place-len : goal.returns-else-place-len

@@ -1,6 +1,6 @@
-use Rattle.std.proofs.Common.{◌≡◌, ℕ, ◌+◌, ◌<◌, Bool, true, false, ◌||◌, List, length, get_or, drop, sym, ap, ◌∙◌, arith}
+use Rattle.std.proofs.Common.{◌≡◌, ℕ, ◌+◌, ◌<◌, Bool, false, ◌||◌, List, length, get_or, drop, sym, ap, ◌∙◌, arith}
 use Rattle.std.specs.Ordering.{is_eq}
-use Rattle.std.proofs.lemmas.List.{at_drop_more, at_drop_all}
+use Rattle.std.proofs.lemmas.List.{at_drop_more}
 use Rattle.ordered.specs.Orders.{comparison}
 use Rattle.lattice.specs.declared.cell.Cell.{Cell}
 use Rattle.lattice.specs.Cells.{cell_less}
@@ -23,17 +23,3 @@ loop-orientation-preserved c =
     let x = c.orientation-item.result in
     let test : p x ≡ false = ap (λ (l : List Cell). is_eq (comparison cell_less l cells)) (sym c.cells.ensures.value) ∙ ap is_eq (sym c.compare.ensures.value) ∙ sym c.if-is_eq.ensures in
     sym (next p (orbit_list c.args.self.now) c.as_slice-orientation-items.result.now c.loop-orientation.orientation-index x false c.as_slice-orientation-items.ensures c.loop-orientation-test.true c.orientation-item.is test) ∙ c.loop-orientation.invariant
-
-pub returns-then-is_eq : goal.returns-then-is_eq
-returns-then-is_eq c =
-    let cells = c.args.cells.now in
-    let p : Orientation → Bool = λ o. same_cells (placement_cells o.placement) cells in
-    let x = c.orientation-item.result in
-    let test : p x ≡ true = ap (λ (l : List Cell). is_eq (comparison cell_less l cells)) (sym c.cells.ensures.value) ∙ ap is_eq (sym c.compare.ensures.value) ∙ sym c.if-is_eq.ensures in
-    sym (next p (orbit_list c.args.self.now) c.as_slice-orientation-items.result.now c.loop-orientation.orientation-index x true c.as_slice-orientation-items.ensures c.loop-orientation-test.true c.orientation-item.is test) ∙ c.loop-orientation.invariant
-
-pub returns : goal.returns
-returns c =
-    let p : Orientation → Bool = λ o. same_cells (placement_cells o.placement) c.args.cells.now in
-    let xs = orbit_list c.args.self.now in
-    sym (at_drop_all (some_pass p) xs c.loop-orientation.orientation-index (omega (arith, ap length c.as_slice-orientation-items.ensures, c.loop-orientation-test.false))) ∙ c.loop-orientation.invariant
